@@ -1,0 +1,3 @@
+pub mod Everywhere
+pub mod Chains
+pub mod Parts

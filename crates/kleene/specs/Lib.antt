@@ -1,0 +1,2 @@
+pub mod Algebras
+pub mod Chains
