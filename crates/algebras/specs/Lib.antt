@@ -1,0 +1,4 @@
+pub mod Bits
+pub mod Formulas
+pub mod Marks
+pub mod Phases
