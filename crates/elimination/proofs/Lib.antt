@@ -1,0 +1,13 @@
+pub mod Components
+pub mod Least
+pub mod Lists
+pub mod Meets
+pub mod Members
+pub mod Once
+pub mod Routes
+pub mod Runs
+pub mod Schedules
+pub mod Semirings
+pub mod Series
+pub mod Solves
+pub mod Sums

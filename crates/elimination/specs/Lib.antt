@@ -1,0 +1,5 @@
+pub mod Networks
+pub mod Equations
+pub mod Moves
+pub mod Series
+pub mod Theorems
