@@ -134,7 +134,7 @@ pub impl fmt::Display for Refusal as RefusalDisplay {
             ),
             Refusal::Damaged(buffer) => write!(
                 f,
-                "the buffer of {buffer} is damaged, open the network anew"
+                "the buffer of {buffer} is damaged, lend the one that holds this network"
             ),
             Refusal::NotAMember(step) => write!(
                 f,
