@@ -1,0 +1,9 @@
+pub mod Eaches
+pub mod Growth
+pub mod Means
+pub mod Readings
+pub mod SoundRecords
+pub mod Stores
+pub mod Values
+pub mod Walks
+pub mod Ways

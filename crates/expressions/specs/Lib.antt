@@ -1,0 +1,5 @@
+pub mod Layout
+pub mod Contents
+pub mod Making
+pub mod Meanings
+pub mod Laws
