@@ -6,11 +6,9 @@ use kleene::Algebra;
 // meaning changes as the store grows.
 pub fn readings_mean<A: Algebra>(algebra: &A)
     ensures { λ _. ⌜ ReadingMeans (meaning (now (algebra .entry))) ⌝ }
-{
-}
+{}
 
 // The same in counts of ways, where an expression that is added to itself spells nothing.
 pub fn ways_mean()
     ensures { λ _. ⌜ WaysMean ⌝ }
-{
-}
+{}

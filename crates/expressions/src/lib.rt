@@ -31,9 +31,13 @@ pub struct Record {
 }
 
 pub const NOTHING: u32 = 0;
+
 pub const STAY: u32 = 1;
 
 const STEP_KIND: u32 = 2;
+
 const SUM_KIND: u32 = 3;
+
 const THEN_KIND: u32 = 4;
+
 const REPEAT_KIND: u32 = 5;

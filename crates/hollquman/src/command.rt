@@ -20,6 +20,11 @@ pub(crate) enum Command {
     Modulus(u64),
     Weigh(u8, Weight),
     Chain(Vec<u8>),
+    Open(usize),
+    Add(usize, usize),
+    Retire(usize),
+    Restore(usize),
+    Steps,
     // A line with no word.
     Nothing,
     NotUnderstood,
@@ -54,6 +59,34 @@ fn modulus(words: &[&str]) -> Option<Command> {
     }
 }
 
+fn open(words: &[&str]) -> Option<Command> {
+    match words {
+        [formats] => Some(Command::Open(notation::count(formats)?)),
+        _ => None,
+    }
+}
+
+fn add(words: &[&str]) -> Option<Command> {
+    match words {
+        [from, to] => Some(Command::Add(notation::count(from)?, notation::count(to)?)),
+        _ => None,
+    }
+}
+
+fn retire(words: &[&str]) -> Option<Command> {
+    match words {
+        [step] => Some(Command::Retire(notation::count(step)?)),
+        _ => None,
+    }
+}
+
+fn restore(words: &[&str]) -> Option<Command> {
+    match words {
+        [step] => Some(Command::Restore(notation::count(step)?)),
+        _ => None,
+    }
+}
+
 fn weigh(words: &[&str]) -> Option<Command> {
     match words {
         [step, algebra, value] => Some(Command::Weigh(
@@ -84,6 +117,11 @@ pub(crate) fn read(heap: Global, words: &[&str]) -> Result<Command, AllocError> 
             "modulus" => Ok(modulus(rest).unwrap_or(Command::NotUnderstood)),
             "weigh" => Ok(weigh(rest).unwrap_or(Command::NotUnderstood)),
             "chain" => chain(heap, rest),
+            "open" => Ok(open(rest).unwrap_or(Command::NotUnderstood)),
+            "add" => Ok(add(rest).unwrap_or(Command::NotUnderstood)),
+            "retire" => Ok(retire(rest).unwrap_or(Command::NotUnderstood)),
+            "restore" => Ok(restore(rest).unwrap_or(Command::NotUnderstood)),
+            "steps" if rest.is_empty() => Ok(Command::Steps),
             _ => Ok(Command::NotUnderstood),
         },
     }

@@ -15,6 +15,11 @@ pub(crate) fn number(word: &str) -> Option<u64> {
     word.parse::<u64>().ok()
 }
 
+// A number of formats, a format or a step.
+pub(crate) fn count(word: &str) -> Option<usize> {
+    usize::try_from(number(word)?).ok()
+}
+
 // A step's number, 0 to 255.
 pub(crate) fn step(word: &str) -> Option<u8> {
     u8::try_from(number(word)?).ok()

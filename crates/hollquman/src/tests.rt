@@ -14,6 +14,14 @@ modulus 5.
 modulus 18446744073709551616
 chain x
 chain 0 256
+open
+open 1 2
+open x
+add 1
+add 1 2 3
+retire
+restore 1 2
+steps 1
 weigh 256 cost 1
 weigh 0 cost
 weigh 0 cost 1 2
