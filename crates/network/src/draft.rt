@@ -26,13 +26,6 @@ impl Draft {
         }
     }
 
-    // How many steps were added, in force or retired.
-    pub fn step_count(&self) -> usize
-        ensures { λ r. ⌜ r ≡ now (self .entry) .steps ⌝ }
-    {
-        self.steps
-    }
-
     // Adds a step in force from one format to another, or to the same, and answers its number.
     pub fn add(&mut self, steps: &mut [Step], from: usize, to: usize) -> Result<usize, Refusal>
         ensures { λ r. ⌜ record { answer = outcome (λ j. j) r; draft = now (self .exit); buffer = now (steps .exit) } ≡ added (now (self .entry)) (now (steps .entry)) from to ⌝ }
