@@ -1,0 +1,10 @@
+pub mod Bits
+pub mod Drawing
+pub mod Entries
+pub mod Leading
+pub mod Listings
+pub mod Loads
+pub mod Lowest
+pub mod MaskRows
+pub mod Picks
+pub mod Runs
