@@ -1,5 +1,7 @@
 // Tables of values of each operation of the five algebras. What is expected was worked out by other code: sets by
 // listing their elements, stars by adding until nothing is new.
+#![tactic(auto)]
+
 #[cfg(test)]
 mod tests {
     use algebras::{Cost, Depth, Marking, Marks, Phase, Reach};

@@ -1,5 +1,5 @@
 -- The greatest common divisor of a set of phases and its multiples, as loops find them. Assumes nothing.
-use Rattle.std.proofs.Common.{◌≡◌, ℕ, zero, suc, ◌+◌, ◌-◌, ◌*◌, ◌%◌, ◌^◌, ◌<◌, ◌≤◌, Bool, not, ◌&&◌, ◌||◌, eqb, ltb, ◌⊎◌, sym, ap, ◌∙◌, subst, ⊎_elim, mod-eq_of_lt, zero-add, arith}
+use Rattle.std.proofs.Common.{◌≡◌, ℕ, zero, suc, ◌+◌, ◌-◌, ◌*◌, ◌%◌, ◌^◌, ◌<◌, ◌≤◌, Bool, not, ◌&&◌, ◌||◌, eqb, ltb, sym, ap, ◌∙◌, subst, ⊎_elim, mod-eq_of_lt, zero-add, arith}
 use mathlib.Core.Path.{fun_ext}
 use native.Mathlib.Nat.{mod_self, mod-add-mod, add-mod_right, mod-mod_of_dvd, dvd_of_mod-eq-zero, pos_of_dvd_of_pos, le_of_dvd}
 use lib.Bits.{bit_and, bit_or}

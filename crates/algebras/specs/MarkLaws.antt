@@ -1,12 +1,12 @@
 -- The marks keep the laws of a Kleene algebra: each mark by itself does, and a marking is what it does to each mark.
 -- Assumes nothing.
-use Rattle.std.specs.Prelude.{◌≡◌, ℕ, ◌-◌, ◌^◌, ◌<◌, ◌≤◌, Bool, true, false, cond, not, ◌&&◌, ◌||◌, ◌==◌, bit_and, bit_or, nat_le, refl}
-use Rattle.std.proofs.Common.{ap, sym, subst, ◌∙◌, ⊎_elim, arith}
+use Rattle.std.specs.Prelude.{◌≡◌, ℕ, ◌-◌, ◌^◌, ◌<◌, Bool, true, false, not, ◌&&◌, ◌||◌, ◌==◌, bit_and, bit_or, nat_le, refl}
+use Rattle.std.proofs.Common.{ap, sym, subst, ◌∙◌, arith}
 use Rattle.std.proofs.lemmas.Nat.{or_lt, and_le_l}
 use Rattle.std.proofs.lemmas.Bool.{and_parts, and_from, leb-true, le-leb, eqb-true, eq-eqb, not-true}
-use Rattle.kleene.specs.Algebras.{Meaning, Kleene, Member}
-use Rattle.kleene.proofs.Parts.{Parts, parts_laws}
-use Rattle.algebras.specs.Bits.{has, set_of}
+use Rattle.kleene.specs.Algebras.{Meaning, Kleene}
+use Rattle.kleene.proofs.Parts.{parts_laws}
+use Rattle.algebras.specs.Bits.{has}
 use Rattle.algebras.specs.Marks.{all, others, member_of, sum_of, product_of, star_of, marks_meaning}
 use Rattle.algebras.specs.declared.marks.Marking.{Marking}
 use Rattle.algebras.specs.declared.marks.Marking.TheVariants.{Zero, Pair}

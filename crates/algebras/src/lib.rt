@@ -1,4 +1,6 @@
 // Five Kleene algebras, in which the routes of a network of picture formats are read.
+#![tactic(auto)]
+
 mod cost;
 mod depth;
 mod marks;

@@ -1,5 +1,7 @@
 // Rounds of the calls that take time, for a program in another language to measure: a network of 32 formats with 256 steps that are
 // drawn by chance is sealed, traced or queried again and again.
+#![tactic(auto)]
+
 mod buffers;
 mod checksum;
 mod noise;

@@ -2,7 +2,7 @@
 use Rattle.std.proofs.Common.{◌≡◌, ℕ, zero, suc, ◌<◌, Bool, true, false, cond, ◌&&◌, eqb, ltb, List, [], ◌∷◌, ◌++◌, length, Decides, sym, refl, ap, subst, append_assoc, append-nil, arith}
 use Rattle.std.proofs.lemmas.List.{get_or_past}
 use Rattle.std.proofs.lemmas.Bool.Decides.{nat_tests, Decides-eqb}
-use Rattle.elimination.specs.Networks.{Network, arc, InForce, Joined, Route}
+use Rattle.elimination.specs.Networks.{Network, arc, Joined, Route}
 use Rattle.elimination.specs.Equations.{when, sum_below, start, inflow}
 use Rattle.elimination.specs.Moves.{traced}
 use Rattle.elimination.specs.Series.{Series, over_cuts, empty, letter, counting}

@@ -1,6 +1,6 @@
 -- Elimination as two lists of moves, which depend on the components and the steps in force and on no value, and how the
 -- moves are run over any operations. Assumes nothing.
-use Rattle.std.specs.Prelude.{ℕ, zero, suc, Bool, true, false, cond, not, ◌&&◌, List, [], ◌∷◌, ◌++◌, map, length, fold, ◌==◌, nat_eq}
+use Rattle.std.specs.Prelude.{ℕ, zero, suc, Bool, cond, not, ◌&&◌, List, [], ◌∷◌, ◌++◌, map, length, fold, ◌==◌, nat_eq}
 use Rattle.kleene.specs.Algebras.{Operations}
 use Rattle.elimination.specs.Networks.{Network, arc}
 

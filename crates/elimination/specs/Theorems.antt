@@ -2,7 +2,7 @@
 use Rattle.std.specs.Prelude.{◌≡◌, ℕ, ◌*◌, ◌<◌, ◌≤◌, List, [], ◌∷◌, ◌++◌, fold, sum_by}
 use Rattle.kleene.specs.Algebras.{Operations, Meaning}
 use Rattle.elimination.specs.Networks.{Network, Joined, Ordered, InForce, Route, Like, EqualWeights}
-use Rattle.elimination.specs.Equations.{Weighed, Solution, Least}
+use Rattle.elimination.specs.Equations.{Weighed, Least}
 use Rattle.elimination.specs.Moves.{Act, Move, act, move, no_table, first_row, sealed, traced, sealing, tracing}
 use Rattle.elimination.specs.Series.{Series, counting, cuts, letter}
 

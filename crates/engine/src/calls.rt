@@ -58,9 +58,9 @@ pub fn query<A: Algebra>(
     plan: &Plan,
     source: usize,
 ) -> Result<(), Refusal>
-    ensures after { record { answer = outcome (λ u. u) result; state = sealed_counts sealed.new; records = records.new; heads = heads.new; row = row.new; memo = memo.new; answers = answers.new } ≡ queries (meaning algebra.now) (sealed_counts sealed.old) steps.now records.old heads.old row.old weights.now memo.old answers.old (planned plan.now) source }
-    ensures promises { OnOk result (InEveryHistory (meaning algebra.now) (sealed_world (sealed_counts sealed.old) steps.now records.entry.now heads.old (planned plan.now)) source weights.now (record { records = records.exit.now; heads = heads.new; count = (sealed_counts sealed.new).records }) row.new answers.new) }
-    ensures unseen { OnOk result (RetiredUnseen (meaning algebra.now) (sealed_counts sealed.old) steps.now records.old heads.old row.old weights.now memo.old answers.old (planned plan.now) source) }
+    ensures after { record { answer = outcome (λ u. u) result; state = sealed_counts sealed.new; records = records.new; heads = heads.new; row = row.new; memo = memo.new; answers = answers.new } ≡ queries (A.meaning algebra.now) (sealed_counts sealed.old) steps.now records.old heads.old row.old weights.now memo.old answers.old (planned plan.now) source }
+    ensures promises { OnOk result (InEveryHistory (A.meaning algebra.now) (sealed_world (sealed_counts sealed.old) steps.now records.entry.now heads.old (planned plan.now)) source weights.now (record { records = records.exit.now; heads = heads.new; count = (sealed_counts sealed.new).records }) row.new answers.new) }
+    ensures unseen { OnOk result (RetiredUnseen (A.meaning algebra.now) (sealed_counts sealed.old) steps.now records.old heads.old row.old weights.now memo.old answers.old (planned plan.now) source) }
 {
     long_enough(sealed, steps, records, heads, row)?;
     long_too(

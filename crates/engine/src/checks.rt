@@ -115,7 +115,7 @@ pub(crate) fn weighed<A: Algebra>(
     weights: &[A::Value],
 ) -> Result<(), Refusal>
     requires { length added.now ≤ length weights.now }
-    ensures { outcome (λ u. u) result ≡ weighed added.now (member_in (meaning algebra.now) weights.now) }
+    ensures { outcome (λ u. u) result ≡ weighed added.now (member_in (A.meaning algebra.now) weights.now) }
 {
     for j in 0..added.len() {
         if added[j].in_force && !algebra.is_member(weights[j]) {

@@ -124,8 +124,8 @@ pub(crate) fn answer<A: Algebra>(
     requires row { (t : ℕ) → row_of traced.now t < count }
     requires memo { count ≤ length memo.old }
     requires answers { n ≤ length answers.old }
-    ensures memo { memo.new ≡ values (everywhere (meaning algebra.now)) (weight_in (meaning algebra.now) weights.now) (take count records.now) ++ drop count memo.old }
-    ensures answers { answers.new ≡ filled (λ t. slice_index_or memo.new (row_of traced.now t) (meaning algebra.now).on.zero) n answers.old }
+    ensures memo { memo.new ≡ values (everywhere (A.meaning algebra.now)) (weight_in (A.meaning algebra.now) weights.now) (take count records.now) ++ drop count memo.old }
+    ensures answers { answers.new ≡ filled (λ t. slice_index_or memo.new (row_of traced.now t) (A.meaning algebra.now).on.zero) n answers.old }
 {
     expressions::read(algebra, weights, &records[..count], memo);
     write_answers(traced, n, memo, answers);

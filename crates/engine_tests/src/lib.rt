@@ -1,5 +1,7 @@
 // Tests of tracing and querying a sealed network, with values worked out by hand, and each refusal at its edge, with the buffers
 // compared before and after.
+#![tactic(auto)]
+
 #[cfg(test)]
 mod tests {
     use algebras::{Cost, Phase};

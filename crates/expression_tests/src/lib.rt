@@ -1,4 +1,6 @@
 // Tests of the expression store, with values worked out by hand.
+#![tactic(auto)]
+
 #[cfg(test)]
 mod tests {
     use algebras::{Cost, Depth, Marking, Marks, Phase, Reach};

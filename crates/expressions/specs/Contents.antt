@@ -1,5 +1,5 @@
 -- The contents of a store: its records, the heads of its chains, and how many records are in use. Assumes nothing.
-use Rattle.std.specs.Prelude.{◌≡◌, ℕ, ◌+◌, ◌*◌, ◌%◌, ◌≤◌, min, true, List, [], ◌∷◌, ◌++◌, length, get_or, take, drop, set, replicate}
+use Rattle.std.specs.Prelude.{◌≡◌, ℕ, ◌+◌, ◌*◌, ◌%◌, ◌≤◌, min, true, List, ◌∷◌, ◌++◌, length, take, drop, replicate}
 use Rattle.expressions.specs.declared.Record.{Record}
 use Rattle.expressions.specs.declared.store.Store.{Store}
 use Rattle.expressions.specs.Layout.{well_formed, linked, each, heads_sound}

@@ -6,7 +6,7 @@ use kleene::Algebra;
 // In every Kleene algebra: making a sum, a then or a repeat means the sum, product or star of what the parts mean, and no
 // meaning changes as the store grows.
 pub fn readings_mean<A: Algebra>(algebra: &A)
-    ensures { ReadingMeans (meaning algebra.now) }
+    ensures { ReadingMeans (A.meaning algebra.now) }
 {}
 
 // The same in counts of ways, where an expression that is added to itself spells nothing.

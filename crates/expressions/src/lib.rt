@@ -1,4 +1,6 @@
 // Path expressions as records that share equal parts, in memory that the caller lends.
+#![tactic(auto)]
+
 mod damage;
 mod laws;
 mod reading;

@@ -15,7 +15,7 @@ fn value<A: Algebra>(
     memo: &[A::Value],
 ) -> A::Value
     requires { Readable (length weights.now) (length memo.now) entry }
-    ensures { result ≡ value_of (everywhere (meaning algebra.now)) (λ j. slice_index_or weights.now j (everywhere (meaning algebra.now)).zero) memo.now entry }
+    ensures { result ≡ value_of (everywhere (A.meaning algebra.now)) (λ j. slice_index_or weights.now j (everywhere (A.meaning algebra.now)).zero) memo.now entry }
 {
     match entry.kind {
         STAY => algebra.one(),
@@ -37,7 +37,7 @@ pub fn read<A: Algebra>(
     requires formed { each well_formed 0 records.now ≡ true }
     requires named { each (names_below (length weights.now)) 0 records.now ≡ true }
     requires room { length records.now ≤ length memo.old }
-    ensures { memo.new ≡ values (everywhere (meaning algebra.now)) (λ j. slice_index_or weights.now j (everywhere (meaning algebra.now)).zero) records.now ++ drop (length records.now) memo.old }
+    ensures { memo.new ≡ values (everywhere (A.meaning algebra.now)) (λ j. slice_index_or weights.now j (everywhere (A.meaning algebra.now)).zero) records.now ++ drop (length records.now) memo.old }
 {
     for (i, entry) in records.iter().enumerate() {
         memo[i] = value(algebra, weights, *entry, memo);

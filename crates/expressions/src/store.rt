@@ -172,7 +172,7 @@ impl Store<'_> {
         requires { Sound (contents self.old) }
         ensures made { ◌≡◌ {A = Outcome ℕ × Contents} (outcome (λ x. x) result, contents self.new) (step_made (contents self.old) j) }
         ensures answer { IfOk result (λ z. Is (contents self.new) 2 j 0 z) }
-        ensures used { good result (λ z. z < self.new.count) }
+        ensures used { IfOk result (λ z. z < self.new.count) }
         ensures grown { Grown (contents self.old) (contents self.new) }
         ensures sound { Sound (contents self.new) }
         ensures lent { Lent self.new self.old }
@@ -187,7 +187,7 @@ impl Store<'_> {
         requires right { y < self.old.count }
         ensures made { ◌≡◌ {A = Outcome ℕ × Contents} (outcome (λ x. x) result, contents self.new) (sum_made (contents self.old) x y) }
         ensures answer { IfOk result (λ z. RuledIs (contents self.new) (sum_rule x y) 3 x y z) }
-        ensures used { good result (λ z. z < self.new.count) }
+        ensures used { IfOk result (λ z. z < self.new.count) }
         ensures grown { Grown (contents self.old) (contents self.new) }
         ensures sound { Sound (contents self.new) }
         ensures lent { Lent self.new self.old }
@@ -205,7 +205,7 @@ impl Store<'_> {
         requires right { y < self.old.count }
         ensures made { ◌≡◌ {A = Outcome ℕ × Contents} (outcome (λ x. x) result, contents self.new) (then_made (contents self.old) x y) }
         ensures answer { IfOk result (λ z. RuledIs (contents self.new) (then_rule x y) 4 x y z) }
-        ensures used { good result (λ z. z < self.new.count) }
+        ensures used { IfOk result (λ z. z < self.new.count) }
         ensures grown { Grown (contents self.old) (contents self.new) }
         ensures sound { Sound (contents self.new) }
         ensures lent { Lent self.new self.old }
@@ -222,7 +222,7 @@ impl Store<'_> {
         requires part { x < self.old.count }
         ensures made { ◌≡◌ {A = Outcome ℕ × Contents} (outcome (λ x. x) result, contents self.new) (repeat_made (contents self.old) x) }
         ensures answer { IfOk result (λ z. RuledIs (contents self.new) (repeat_rule x) 5 x 0 z) }
-        ensures used { good result (λ z. z < self.new.count) }
+        ensures used { IfOk result (λ z. z < self.new.count) }
         ensures grown { Grown (contents self.old) (contents self.new) }
         ensures sound { Sound (contents self.new) }
         ensures lent { Lent self.new self.old }

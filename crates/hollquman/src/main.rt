@@ -1,4 +1,6 @@
 // hollquman reads a script about picture formats and the steps between them, and prints in words what each command did.
+#![tactic(auto)]
+
 mod command;
 mod notation;
 mod session;

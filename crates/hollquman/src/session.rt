@@ -97,7 +97,7 @@ fn appraised<A: Algebra>(
     weights: &[A::Value; 256],
     steps: &[u8],
 ) -> anyhow::Result<A::Value>
-    ensures { IfOk result (λ v. v ≡ comes_to (everywhere (meaning algebra.now)) (map (λ j. slice_index_or weights.now j (everywhere (meaning algebra.now)).one) steps.now)) }
+    ensures { IfOk result (λ v. v ≡ comes_to (everywhere (A.meaning algebra.now)) (map (λ j. slice_index_or weights.now j (everywhere (A.meaning algebra.now)).one) steps.now)) }
 {
     let mut chosen = Vec::new(heap);
     for step in steps {

@@ -27,7 +27,7 @@ fn appraised<A: Algebra>(
     weights: &[A::Value; 256],
     steps: &[u8],
 ) -> anyhow::Result<A::Value>
-    ensures { IfOk result (λ v. v ≡ comes_to (everywhere (meaning algebra.now)) (map (λ j. slice_index_or weights.now j (everywhere (meaning algebra.now)).one) steps.now)) }
+    ensures { IfOk result (λ v. v ≡ comes_to (everywhere (A.meaning algebra.now)) (map (λ j. slice_index_or weights.now j (everywhere (A.meaning algebra.now)).one) steps.now)) }
 {
     let mut chosen = Vec::new(heap);
     for step in steps {
@@ -43,7 +43,7 @@ pub(crate) fn lent<A: Algebra>(
     weights: &[A::Value; 256],
     length: usize,
 ) -> Result<Vec<A::Value>, AllocError>
-    ensures { IfOk result (λ v. v.items ≡ take length weights.now ++ replicate (length - 256) (everywhere (meaning algebra.now)).one) }
+    ensures { IfOk result (λ v. v.items ≡ take length weights.now ++ replicate (length - 256) (everywhere (A.meaning algebra.now)).one) }
 {
     let mut lent = Vec::from_slice(heap, weights)?;
     lent.resize(length, algebra.one())?;

@@ -1,5 +1,5 @@
 -- The laws of a Kleene algebra at every value, where an operand that is no member counts as zero. Assumes nothing.
-use Rattle.std.proofs.Common.{◌≡◌, true, cond, sym, ap, ◌∙◌}
+use Rattle.std.proofs.Common.{◌≡◌, sym, ap, ◌∙◌}
 use Rattle.std.proofs.lemmas.Bool.{cond_both, cond-true}
 use Rattle.kleene.specs.Algebras.{Meaning, Kleene, Member, taken, everywhere}
 

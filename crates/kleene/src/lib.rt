@@ -1,4 +1,6 @@
 // The interface through which path expressions are read, and what follows from its laws.
+#![tactic(auto)]
+
 ghost use Rattle.std.specs.Prelude.{◌≡◌};
 ghost use Rattle.kleene.specs.Algebras.{Meaning, Kleene, everywhere};
 ghost use Rattle.kleene.specs.Chains.{comes_to, Joins};
@@ -36,8 +38,8 @@ pub trait Algebra {
 // What a chain of steps with these weights, taken in this order, comes to: the product of the weights, one for the
 // empty chain.
 pub fn chain<A: Algebra>(algebra: &A, weights: &[A::Value]) -> A::Value
-    ensures value { result ≡ comes_to (everywhere (meaning algebra.now)) weights.now }
-    ensures joins { Joins (everywhere (meaning algebra.now)) weights.now result }
+    ensures value { result ≡ comes_to (everywhere (A.meaning algebra.now)) weights.now }
+    ensures joins { Joins (everywhere (A.meaning algebra.now)) weights.now result }
 {
     let mut so_far = algebra.one();
     for w in weights {

@@ -1,13 +1,13 @@
 -- What working out a plan rests on: sound steps join formats, and the order that is listed has all of them. Assumes nothing.
-use Rattle.std.proofs.Common.{◌≡◌, ℕ, ◌-◌, ◌<◌, ◌≤◌, true, false, ◌&&◌, ltb, ◌⊎◌, List, map, length, get_or, take, replicate, sym, refl, ap, ◌∙◌, subst, inl, inr, arith}
+use Rattle.std.proofs.Common.{◌≡◌, ℕ, ◌-◌, ◌<◌, ◌≤◌, true, false, ◌&&◌, ltb, List, map, length, get_or, take, replicate, sym, refl, ap, ◌∙◌, subst, inl, inr, arith}
 use mathlib.Core.Path.{fun_ext}
 use Rattle.std.proofs.lemmas.List.{get_or-map, get_or_past, get_or-replicate, get_or_append_left, get_or-append_right, length-map, length-replicate, take-append-le, take_all}
 use Rattle.std.proofs.lemmas.Bool.{cases_lt, and_parts, ltb-true, cond-true, cond-false, lt-ltb, le-ltb}
-use Rattle.elimination.specs.Networks.{Arc, Network, arc, InForce, Joined}
+use Rattle.elimination.specs.Networks.{Arc, Network, Joined}
 use Rattle.elimination.specs.Moves.{sealing}
 use Rattle.expressions.specs.Contents.{Contents}
 use Rattle.expressions.specs.declared.Step.{Step}
-use Rattle.expressions.specs.Layout.{each, nowhere}
+use Rattle.expressions.specs.Layout.{nowhere}
 use Rattle.expressions.proofs.Eaches.{each_at}
 use Rattle.planning.specs.declared.rows.Row.{Row}
 use Rattle.planning.specs.Components.{Listing, component_of, component_count}

@@ -1,10 +1,9 @@
 -- An order of the formats by component has each format, the components in turn, and rises inside each. Assumes nothing.
-use Rattle.std.proofs.Common.{◌≡◌, ℕ, zero, suc, ◌<◌, true, eqb, ◌⊎◌, List, [], ◌∷◌, ◌++◌, length, get_or, sym, refl, ap, ◌∙◌, subst, inl, inr, arith}
+use Rattle.std.proofs.Common.{◌≡◌, ℕ, zero, suc, ◌<◌, true, eqb, ◌⊎◌, List, [], ◌∷◌, ◌++◌, length, get_or, sym, refl, ◌∙◌, subst, inl, inr, arith}
 use Rattle.std.specs.List.{AllByRecursion as All}
 use Rattle.std.proofs.ByRecursion.{All-append, All-weaker, All-get_or}
 use Rattle.std.proofs.lemmas.Bool.{eqb-true, eq-eqb, ne_eqb, cases_eq, and_from, lt-ltb}
-use Rattle.std.proofs.lemmas.Bool.Decides.{nat_tests}
-use Rattle.elimination.specs.Moves.{keep, below, for_each}
+use Rattle.elimination.specs.Moves.{below, for_each}
 use Rattle.elimination.proofs.Lists.{has, has-keep, has-below}
 use Rattle.elimination.proofs.Schedules.{Rising, every, all_keep, all-for_each, rising_keep, rising_below}
 use Rattle.planning.specs.Orders.{members_of, in_order}

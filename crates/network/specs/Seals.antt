@@ -1,6 +1,6 @@
 -- Sealing a network: what comes of it, the state, and each buffer after it. The checks stand in the order in which they are
 -- made. Assumes nothing.
-use Rattle.std.specs.Prelude.{ℕ, Bool, cond, not, ◌&&◌, List, length, take, Some, Ok, Err, Option, Result, nat_lt, slice_index}
+use Rattle.std.specs.Prelude.{ℕ, Bool, cond, ◌&&◌, List, length, take, Some, Ok, Err, Result, nat_lt, slice_index}
 use Rattle.refusals.specs.Refused.{Outcome, done, refused, listed}
 use Rattle.refusals.specs.declared.Refusal.{Refusal}
 use Rattle.elimination.specs.Networks.{Network}
@@ -15,7 +15,7 @@ use Rattle.planning.specs.Orders.{in_order}
 use Rattle.planning.specs.Running.{Ran, through, stopped, run_acts}
 use Rattle.network.specs.declared.states.Draft.{Draft}
 use Rattle.network.specs.declared.states.Sealed.{Sealed}
-use Rattle.network.specs.States.{DraftCounts, SealedCounts, draft_counts, sealed_counts, State, drafted, sealed}
+use Rattle.network.specs.States.{DraftCounts, draft_counts, sealed_counts, State, drafted, sealed}
 use Rattle.network.specs.Plans.{Planned, InTurn}
 
 -- a step is damaged if one of its ends is no format

@@ -1,4 +1,6 @@
 // Networks of picture formats and of the steps between them.
+#![tactic(auto)]
+
 mod draft;
 mod plan;
 mod plans;

@@ -1,5 +1,7 @@
 // Tests of drawing and sealing a network, with values worked out by hand: what sealing makes, and each refusal at its edge,
 // with the buffers compared before and after.
+#![tactic(auto)]
+
 #[cfg(test)]
 mod tests {
     use expressions::{Record, Step};

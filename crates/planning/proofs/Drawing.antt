@@ -1,7 +1,7 @@
 -- The network of a step buffer, step by step. Assumes nothing.
-use Rattle.std.proofs.Common.{◌≡◌, ℕ, ◌+◌, ◌<◌, ◌≤◌, Bool, true, false, ◌&&◌, ◌||◌, eqb, List, [], ◌∷◌, ◌++◌, map, length, get_or, take, sym, refl, ap, ◌∙◌, subst, arith}
+use Rattle.std.proofs.Common.{◌≡◌, ℕ, ◌+◌, ◌<◌, true, false, ◌&&◌, ◌||◌, eqb, List, [], ◌∷◌, ◌++◌, map, length, get_or, take, ap, ◌∙◌, subst, arith}
 use Rattle.std.proofs.lemmas.List.{get_or-map, map_more}
-use Rattle.elimination.specs.Networks.{Arc, Joined, arc, InForce}
+use Rattle.elimination.specs.Networks.{Arc, Joined}
 use Rattle.expressions.specs.declared.Step.{Step}
 use Rattle.planning.specs.Components.{joins, direct}
 use Rattle.planning.specs.Drawn.{arc_of, drawn}

@@ -1,9 +1,9 @@
 -- The components that the computation numbers are those of the network, in their order. Assumes nothing.
-use Rattle.std.proofs.Common.{◌≡◌, ℕ, zero, suc, ◌-◌, ◌<◌, ◌≤◌, Bool, true, false, not, ◌&&◌, ◌||◌, ltb, ◌⊎◌, List, [], ◌∷◌, sym, refl, ap, ◌∙◌, subst, inl, inr, ⊎_elim, arith}
+use Rattle.std.proofs.Common.{◌≡◌, ℕ, zero, suc, ◌-◌, ◌<◌, ◌≤◌, Bool, true, false, not, ◌&&◌, ◌||◌, ltb, ◌⊎◌, List, [], ◌∷◌, sym, ap, ◌∙◌, subst, inl, inr, ⊎_elim, arith}
 use Rattle.std.proofs.lemmas.Bool.{cases_Bool, cases_lt, cases_eq, lt-ltb, le-ltb, ltb-true, ltb-false}
 use Rattle.std.proofs.lemmas.Bool.Decides.{nat_tests}
 use Rattle.elimination.specs.Networks.{Network, arc, InForce, Joined, Route}
-use Rattle.planning.specs.Components.{Leads, Listing, lowest, every, leads, shares, ready, listed, component_of, component_count}
+use Rattle.planning.specs.Components.{Listing, lowest, every, leads, shares, ready, listed, component_of, component_count}
 use Rattle.planning.proofs.Leading.{leads_self, leads-step, leads-on, leads_route, route_leads}
 use Rattle.planning.proofs.Lowest.{lowest-within, lowest-passes, lowest-first, lowest-under, decides_every, one_fails, tally, tally_all_lem, tally_more}
 

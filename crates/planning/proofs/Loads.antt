@@ -1,9 +1,9 @@
 -- The loads of the steps in force, one by one as the steps rise. Assumes nothing.
-use Rattle.std.proofs.Common.{◌≡◌, ℕ, zero, suc, ◌+◌, ◌<◌, ◌≤◌, Bool, true, false, cond, eqb, ◌⊎◌, List, [], ◌∷◌, map, length, get_or, drop, refl, ap, ◌∙◌, subst, inl, inr, arith}
+use Rattle.std.proofs.Common.{◌≡◌, ℕ, zero, suc, ◌<◌, true, false, cond, eqb, List, [], ◌∷◌, map, length, get_or, refl, ap, ◌∙◌, subst, inl, inr, arith}
 use Rattle.std.proofs.lemmas.List.{length_push, length-map, get_or_append_left, get_or_push, get_or-map}
 use Rattle.std.proofs.lemmas.Bool.{cases_lt, cond-true, cond-false}
 use Rattle.elimination.specs.Moves.{Act, load, keep, below}
-use Rattle.elimination.specs.Networks.{Arc, Network, arc, Joined}
+use Rattle.elimination.specs.Networks.{Arc, arc, Joined}
 use Rattle.expressions.specs.declared.Step.{Step}
 use Rattle.planning.specs.Drawn.{arc_of, drawn}
 use Rattle.planning.proofs.Entries.{at-cond}

@@ -1,8 +1,7 @@
 -- What the masks tell of the network, and what is right after each component that the program lists. Assumes nothing.
-use Rattle.std.proofs.Common.{◌≡◌, ℕ, zero, suc, ◌+◌, ◌<◌, ◌≤◌, Bool, true, false, cond, not, ◌&&◌, ◌||◌, ltb, ◌⊎◌, List, get_or, replicate, sym, refl, ap, ◌∙◌, subst, ⊎_elim, add-one, arith}
+use Rattle.std.proofs.Common.{◌≡◌, ℕ, zero, suc, ◌+◌, ◌<◌, ◌≤◌, true, false, cond, not, ◌&&◌, ◌||◌, ltb, List, get_or, replicate, sym, refl, ◌∙◌, subst, ⊎_elim, add-one, arith}
 use lib.Bits.{bit_and, bit_or}
 use Rattle.std.proofs.lemmas.Bool.{cases_Bool, cases_lt, false≢true, lt-ltb, le-ltb}
-use Rattle.std.proofs.lemmas.Bool.Decides.{nat_tests}
 use Rattle.elimination.specs.Networks.{Network, Joined}
 use Rattle.planning.specs.Bits.{has, goes, unentered}
 use Rattle.planning.specs.Components.{Listing, lowest, every, direct, through, leads, shares, ready, listed, component_of, component_count}

@@ -9,8 +9,8 @@ use Rattle.expressions.specs.Contents.{Contents, contents, Grown, Lent}
 use Rattle.expressions.specs.Making.{step_made, sum_made, then_made}
 use Rattle.planning.specs.Running.{Ran, through, stopped, then_with, onward, move_in, act_in, run_acts, seen}
 use Rattle.planning.specs.declared.rows.Row.{Row}
-use Rattle.planning.specs.Tables.{row_of, table_of, TableFits, Kept}
-use Rattle.planning.proofs.Entries.{table-put, table_stays}
+use Rattle.planning.specs.Tables.{row_of, table_of, Kept}
+use Rattle.planning.proofs.Entries.{table-put}
 
 -- a store that has grown twice has grown
 pub grown-on : {b c d : Contents} → Grown b c → Grown c d → Grown b d

@@ -1,5 +1,5 @@
 -- The table of a plan as a function of two formats. Assumes nothing.
-use Rattle.std.specs.Prelude.{◌≡◌, ℕ, ◌<◌, List, [], length, get_or, slice_index, slice_index_or, slice_set}
+use Rattle.std.specs.Prelude.{◌≡◌, ℕ, ◌<◌, List, [], length, slice_index, slice_index_or, slice_set}
 use Rattle.expressions.specs.declared.store.Store.{Store}
 use Rattle.expressions.specs.Contents.{contents, Sound, Grown, Lent}
 use Rattle.planning.specs.declared.rows.Row.{Row}

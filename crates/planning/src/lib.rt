@@ -1,4 +1,6 @@
 // What sealing a network needs: its components and their order, and elimination in the expression store.
+#![tactic(auto)]
+
 mod components;
 mod eliminating;
 mod listing;

@@ -2,6 +2,8 @@
 //
 // `Refusal` is the error of every call that can refuse. What the caller is promised of it is its number and the values
 // that come with it, as `specs/Refused.antt` lists them.
+#![tactic(auto)]
+
 ghost use Rattle.std.specs.Prelude.{◌≡◌};
 ghost use Rattle.refusals.specs.Refused.{listed, buffer_number};
 

@@ -1,5 +1,7 @@
 // trials prints what the engine does beside what it should do: its rules at their edges, and the routes of small networks with
 // loops, which code of its own finds by walking them, and the answers of a client. Each line ends with `agrees` or `differs`.
+#![tactic(auto)]
+
 mod around;
 mod buffers;
 mod edges;

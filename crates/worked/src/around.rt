@@ -32,8 +32,8 @@ pub fn around_a_loop<A: Algebra>(
     memo: &mut [A::Value],
     answers: &mut [A::Value],
 ) -> Result<(), Refusal>
-    ensures asked { outcome (λ u. u) result ≡ asked_around (meaning algebra.now) weights.now memo.old answers.old }
-    ensures least { OnOk result (LeastAround (meaning algebra.now) weights.now answers.new) }
+    ensures asked { outcome (λ u. u) result ≡ asked_around (A.meaning algebra.now) weights.now memo.old answers.old }
+    ensures least { OnOk result (LeastAround (A.meaning algebra.now) weights.now answers.new) }
 {
     let mut steps = [Step {
         from: 0,

@@ -1,4 +1,6 @@
 // What the engine is for: a client that rests on its promises, and small networks that are worked out.
+#![tactic(auto)]
+
 mod around;
 mod examples;
 

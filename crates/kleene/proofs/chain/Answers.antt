@@ -1,4 +1,4 @@
-use Rattle.std.proofs.Common.{◌≡◌, sym, ap, ◌∙◌, subst, take_all, rules}
+use Rattle.std.proofs.Common.{sym, ap, ◌∙◌, subst, take_all}
 use Rattle.std.proofs.lemmas.List.Sums.{fold_more}
 use Rattle.kleene.specs.Algebras.{everywhere}
 use Rattle.kleene.specs.Chains.{comes_to, Joins}
@@ -9,7 +9,7 @@ pub loop-w-preserved : goal.loop-w-preserved
 loop-w-preserved g c =
     let o = everywhere (g.A.Algebra.meaning c.args.algebra.now) in
     let next = fold_more o.product o.one c.args.weights.now c.loop-w.w-index c.w-item.result c.loop-w-test.true in
-    c.product-so-far.ensures
+    c.product-so_far.ensures
     ∙ ap (λ x. o.product x c.w-item.result) c.loop-w.invariant
     ∙ ap (o.product _) c.w-item.is
     ∙ sym next

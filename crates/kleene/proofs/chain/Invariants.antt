@@ -1,4 +1,4 @@
-use Rattle.std.proofs.Common.{◌≡◌, ◌≤◌, length, take}
+use Rattle.std.proofs.Common.{◌≡◌, take}
 use Rattle.kleene.specs.Algebras.{everywhere}
 use Rattle.kleene.specs.Chains.{comes_to}
 use Rattle.kleene.proofs.chain.Given as goal

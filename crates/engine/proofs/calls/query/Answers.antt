@@ -17,8 +17,8 @@ use Rattle.engine.proofs.calls.query.Goals as goal
 
 pub weighed-requires : goal.weighed-requires
 weighed-requires g c =
-    let long = length-take c.step-count.result c.args.steps.now in
-    omega (arith, c.in-ok-long-too.ensures.passed.for_weights, c.step-count.ensures)
+    let long = length-take c.step_count.result c.args.steps.now in
+    omega (arith, c.in_ok-long_too.ensures.passed.for_weights, c.step_count.ensures)
 
 pub answer-requires : goal.answer-requires
 answer-requires g c =
@@ -29,15 +29,15 @@ answer-requires g c =
     let heads = c.args.heads.now in
     let plan = planned c.args.plan.now in
     let weights = c.args.weights.now in
-    let long = c.in-ok-long-enough.ensures.passed in
-    let too = c.in-ok-long-too.ensures.passed in
-    let taken = ap (λ k. take k steps) c.step-count.ensures in
-    let tracks = c.in-ok-traced.ensures ∙ ap (λ added. tracked_by s (ran_from s added records heads plan c.args.source)) taken in
+    let long = c.in_ok-long_enough.ensures.passed in
+    let too = c.in_ok-long_too.ensures.passed in
+    let taken = ap (λ k. take k steps) c.step_count.ensures in
+    let tracks = c.in_ok-traced.ensures ∙ ap (λ added. tracked_by s (ran_from s added records heads plan c.args.source)) taken in
     let added = length-take s.steps steps in
     let (reads, same) =
-    tracked_reads c.in-ok-undamaged.ensures.passed sealed.begun sealed.within long.for_records long.for_heads c.args.source (length weights) (omega arith) tracks in
+    tracked_reads c.in_ok-undamaged.ensures.passed sealed.begun sealed.within long.for_records long.for_heads c.args.source (length weights) (omega arith) tracks in
     let counted = sym (ap (λ p. p.1) c.size-count.ensures) in
-    let now = subst (λ count. Reads (take s.steps steps) c.track.new.records count (length weights) (row_of c.in-ok-traced.traced)) counted reads in
+    let now = subst (λ count. Reads (take s.steps steps) c.track.new.records count (length weights) (row_of c.in_ok-traced.traced)) counted reads in
     record {
       within = omega (arith, now.room);
       formed = now.formed;
@@ -61,18 +61,18 @@ returns g c =
     let weights = c.args.weights.now in
     let memo = c.args.memo.now in
     let answers = c.args.answers.now in
-    let long = c.in-ok-long-enough.ensures in
-    let too = c.in-ok-long-too.ensures in
-    let undamaged = c.in-ok-undamaged.ensures in
-    let taken = ap (λ k. take k steps) c.step-count.ensures in
-    let tracks = c.in-ok-traced.ensures ∙ ap (λ added. tracked_by s (ran_from s added records heads plan source)) taken in
+    let long = c.in_ok-long_enough.ensures in
+    let too = c.in_ok-long_too.ensures in
+    let undamaged = c.in_ok-undamaged.ensures in
+    let taken = ap (λ k. take k steps) c.step_count.ensures in
+    let tracks = c.in_ok-traced.ensures ∙ ap (λ added. tracked_by s (ran_from s added records heads plan source)) taken in
     let added = length-take s.steps steps in
     let held : length (take s.steps steps) ≤ length weights = omega (arith, too.passed.for_weights) in
     let (reads, same) = tracked_reads undamaged.passed sealed.begun sealed.within long.passed.for_records long.passed.for_heads source (length weights) held tracks in
     let counted = ap (λ p. p.1) c.size-count.ensures in
-    let found = row_of c.in-ok-traced.traced in
+    let found = row_of c.in_ok-traced.traced in
     let records' = c.track.new.records in
-    let written = c.write-row.ensures ∙ ap (λ n. filled found n row) c.formats-formats.ensures in
+    let written = c.write_row.ensures ∙ ap (λ n. filled found n row) c.formats-formats.ensures in
     let read = c.answer.ensures.memo ∙ ap (λ k. values (everywhere m) (weight_in m weights) (take k records') ++ drop k memo) counted in
     let answered = c.answer.ensures.answers ∙ ap (λ n. filled (λ t. get_or c.answer.new.memo (found t) m.on.zero) n answers) c.formats-formats.ensures in
     let e : ◌≡◌ {A = QueryAfter g.row.A-Value.Denot}
@@ -81,13 +81,13 @@ returns g c =
       state = sealed_counts c.track.new.sealed;
       records = records';
       heads = c.track.new.heads;
-      row = c.write-row.new.row;
+      row = c.write_row.new.row;
       memo = c.answer.new.memo;
       answers = c.answer.new.answers;
     })
     (queries m s steps records heads row weights memo answers plan source) =
-    query_ended m s steps records heads row weights memo answers plan source (take s.steps steps) refl long.value too.value undamaged.value c.in-ok-known.ensures.value
-    (c.in-ok-weighed.ensures ∙ ap (λ a. weighed a (member_in m weights)) taken) tracks reads written read answered in
+    query_ended m s steps records heads row weights memo answers plan source (take s.steps steps) refl long.value too.value undamaged.value c.in_ok-known.ensures.value
+    (c.in_ok-weighed.ensures ∙ ap (λ a. weighed a (member_in m weights)) taken) tracks reads written read answered in
     record {
       after = e;
       promises = query_promises m s steps records heads row weights memo answers plan source (g.met.A.Algebra.kleene c.args.algebra.now) refl e;

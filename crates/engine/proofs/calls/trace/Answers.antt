@@ -17,9 +17,9 @@ returns c =
     let row = c.args.row.now in
     let plan = planned c.args.plan.now in
     let source = c.args.source in
-    let found = row_of c.in-ok-traced.traced in
-    let e : ◌≡◌ {A = TraceAfter} (record { answer = done tt; state = sealed_counts c.track.new.sealed; records = c.track.new.records; heads = c.track.new.heads; row = c.write-row.new.row }) (traces s steps records heads row plan source) =
-    trace_ended s steps records heads row plan source {found = found} (take c.step-count.result steps) (ap (λ k. take k steps) c.step-count.ensures)
-    (c.write-row.ensures ∙ ap (λ n. filled found n row) c.formats-formats.ensures)
-    c.in-ok-long-enough.ensures.value c.in-ok-undamaged.ensures.value c.in-ok-known.ensures.value c.in-ok-traced.ensures in
+    let found = row_of c.in_ok-traced.traced in
+    let e : ◌≡◌ {A = TraceAfter} (record { answer = done tt; state = sealed_counts c.track.new.sealed; records = c.track.new.records; heads = c.track.new.heads; row = c.write_row.new.row }) (traces s steps records heads row plan source) =
+    trace_ended s steps records heads row plan source {found = found} (take c.step_count.result steps) (ap (λ k. take k steps) c.step_count.ensures)
+    (c.write_row.ensures ∙ ap (λ n. filled found n row) c.formats-formats.ensures)
+    c.in_ok-long_enough.ensures.value c.in_ok-undamaged.ensures.value c.in_ok-known.ensures.value c.in_ok-traced.ensures in
     record { after = e; routes = trace-routes s steps records heads row plan source refl e }

@@ -22,13 +22,13 @@ none_named : (n : ℕ) (test : ℕ → Bool) → ((k : ℕ) → k < n → test k
     ◌≡◌ {A = Outcome (Unit {0})} (done tt) (cond (ltb (lowest n test) n) (refused 8 (Some (lowest n test))) (done tt))
 none_named n test none = let past = lowest_none n test none in let end : n ≤ lowest n test = omega arith in sym (cond-false _ _ _ (le-ltb _ _ end))
 
-pub returns-then-not-is-member : goal.returns-then-not-is-member
-returns-then-not-is-member g c =
+pub returns-then-not-is_member : goal.returns-then-not-is_member
+returns-then-not-is_member g c =
     let m = g.A.Algebra.meaning c.args.algebra.now in
     let weights = c.args.weights.now in
     let j = c.loop-j.j in
     let weight = c.index-weights-j.is ∙ get_or_default weights j _ m.on.zero (omega arith) in
-    let fails = sym (ap m.member weight) ∙ sym c.is-member.ensures ∙ c.if-not-is-member.true in
+    let fails = sym (ap m.member weight) ∙ sym c.is_member.ensures ∙ c.if-not-is_member.true in
     first_named (length c.args.added.now) j (λ k. in_force c.args.added.now k && not (member_in m weights k)) c.loop-j-test.true (and_from _ _ c.if-added-j.true (not_from_false _ fails)) c.loop-j.invariant
 
 pub loop-j-preserved : goal.loop-j-preserved
@@ -37,9 +37,9 @@ loop-j-preserved g c =
     let weights = c.args.weights.now in
     let j = c.loop-j.j in
     below_more _ _ c.loop-j.invariant (elim c.else-added-j.branch [
-      | else-added-j-via-then-added-j+else-not-is-member w ↦
+      | else-added-j-via-then-added-j+else-not-is_member w ↦
           let weight = w.index-weights-j.is ∙ get_or_default weights j _ m.on.zero (omega arith) in
-          let passes = sym (ap m.member weight) ∙ sym w.is-member.ensures ∙ w.if-not-is-member.false in
+          let passes = sym (ap m.member weight) ∙ sym w.is_member.ensures ∙ w.if-not-is_member.false in
           and_right _ _ (not_from_true _ passes)
       | else-added-j-via-else-added-j w ↦ and_left _ _ w.if-added-j.false
     ])

@@ -9,7 +9,7 @@ use Rattle.engine.proofs.sweeps.cross.Goals as goal
 
 pub returns : goal.returns
 returns c =
-    let made = c.in-ok-made.ensures in
+    let made = c.in_ok-made.ensures in
     let e = c.pass.ensures in
     let R = row_of c.args.row.now in
     let next : ℕ → Contents → Ran (ℕ → ℕ) = λ step b. move_in (λ _ _. step) b R (pass c.args.step.from c.args.step.to) in

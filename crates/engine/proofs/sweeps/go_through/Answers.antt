@@ -51,10 +51,10 @@ sweep-requires c =
     let p = planned c.args.plan.now in
     record { sound = c.requires.sound; fits = c.requires.fits; named = c.requires.named; within = formats_of_lem p c.args.steps.now c.args.c _ c.requires.component c.members-formats.ensures }
 
-pub sweep-back-requires : goal.sweep-back-requires
-sweep-back-requires c =
+pub sweep_back-requires : goal.sweep_back-requires
+sweep_back-requires c =
     let p = planned c.args.plan.now in
-    let kept = c.in-ok-sweep.ensures.kept in
+    let kept = c.in_ok-sweep.ensures.kept in
     record {
       sound = kept.sound;
       fits = kept.fits;
@@ -62,21 +62,21 @@ sweep-back-requires c =
       within = formats_of_lem p c.args.steps.now c.args.c _ c.requires.component c.members-formats.ensures;
     }
 
-pub returns-in-err-sweep : goal.returns-in-err-sweep
-returns-in-err-sweep c =
-    let q = err_from_is_err_and c.from-residual.result c.from-residual.ensures.1 in
-    let e = c.in-err-sweep.ensures in
+pub returns-in_err-sweep : goal.returns-in_err-sweep
+returns-in_err-sweep c =
+    let q = err_from_is_err_and c.from_residual.result c.from_residual.ensures.1 in
+    let e = c.in_err-sweep.ensures in
     let p = planned c.args.plan.now in
     record {
       run = rw (q.1, q.2) (swept p c.args.steps.now c.args.c _ c.requires.component c.members-formats.ensures (contents c.args.store.now) (row_of c.args.row.now) e.run);
       kept = e.kept;
     }
 
-pub returns-in-err-sweep-back : goal.returns-in-err-sweep-back
-returns-in-err-sweep-back c =
-    let q = err_from_is_err_and c.from-residual-in-err-sweep-back.result c.from-residual-in-err-sweep-back.ensures.1 in
-    let first = c.in-ok-sweep.ensures in
-    let e = c.in-err-sweep-back.ensures in
+pub returns-in_err-sweep_back : goal.returns-in_err-sweep_back
+returns-in_err-sweep_back c =
+    let q = err_from_is_err_and c.from_residual-in_err-sweep_back.result c.from_residual-in_err-sweep_back.ensures.1 in
+    let first = c.in_ok-sweep.ensures in
+    let e = c.in_err-sweep_back.ensures in
     let p = planned c.args.plan.now in
     record {
       run = rw (q.1, q.2) (swept_back p c.args.steps.now c.args.c _ c.requires.component c.members-formats.ensures (contents c.args.store.now) (row_of c.args.row.now) first.run e.run);
@@ -85,8 +85,8 @@ returns-in-err-sweep-back c =
 
 pub returns : goal.returns
 returns c =
-    let first = c.in-ok-sweep.ensures in
-    let second = c.in-ok-sweep-back.ensures in
+    let first = c.in_ok-sweep.ensures in
+    let second = c.in_ok-sweep_back.ensures in
     let e = c.leave.ensures in
     let p = planned c.args.plan.now in
     record {

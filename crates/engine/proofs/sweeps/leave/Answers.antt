@@ -34,10 +34,10 @@ cross-requires c =
     let ends = and_parts _ _ (each_at (λ _ s. ltb s.from n && ltb s.to n) c.args.steps.now c.loop-j.j no_step c.loop-j-test.true c.requires.joined) in
     record { sound = kept.sound; fits = kept.fits; from = ltb-true _ _ ends.0; to = ltb-true _ _ ends.1 }
 
-pub returns-in-err-cross : goal.returns-in-err-cross
-returns-in-err-cross c =
-    let q = err_from_is_err_and c.from-residual.result c.from-residual.ensures.1 in
-    let e = c.in-err-cross.ensures in
+pub returns-in_err-cross : goal.returns-in_err-cross
+returns-in_err-cross c =
+    let q = err_from_is_err_and c.from_residual.result c.from_residual.ensures.1 in
+    let e = c.in_err-cross.ensures in
     let p = planned c.args.plan.now in
     let steps = c.args.steps.now in
     let j = c.loop-j.j in
@@ -55,7 +55,7 @@ loop-j-preserved c =
     let left = leaving_of p.formats steps p.component c.args.c (drop (j + 1) (numbers steps)) in
     elim c.if-leaves.branch [
       | then-leaves+in-ok-cross w ↦
-          let e = w.in-ok-cross.ensures in
+          let e = w.in_ok-cross.ensures in
           let split = next-first p.formats steps p.component c.args.c j c.loop-j-test.true (sym c.leaves.ensures ∙ w.if-leaves.true) in
           sofar_as p.table w.store-is w.row-is (record {
             kept = row_kept_on c.loop-j.invariant.kept e.kept;

@@ -21,10 +21,10 @@ pass-requires c =
       to = c.requires.to c.loop-w.w-index c.loop-w-test.true;
     }
 
-pub returns-in-err-pass : goal.returns-in-err-pass
-returns-in-err-pass c =
-    let p = err_from_is_err_and c.from-residual.result c.from-residual.ensures.1 in
-    let e = c.in-err-pass.ensures in
+pub returns-in_err-pass : goal.returns-in_err-pass
+returns-in_err-pass c =
+    let p = err_from_is_err_and c.from_residual.result c.from_residual.ensures.1 in
+    let e = c.in_err-pass.ensures in
     let ws = c.args.formats.now in
     let k = c.loop-w.w-index in
     let split = at_drop_more (map (pass c.args.v)) ws k 0 c.loop-w-test.true in
@@ -35,7 +35,7 @@ returns-in-err-pass c =
 
 pub loop-w-preserved : goal.loop-w-preserved
 loop-w-preserved c =
-    let e = c.in-ok-pass.ensures in
+    let e = c.in_ok-pass.ensures in
     let ws = c.args.formats.now in
     let k = c.loop-w.w-index in
     let split = at_drop_more (map (pass c.args.v)) ws k 0 c.loop-w-test.true in

@@ -34,10 +34,10 @@ scale-requires c =
     let kept = c.loop-i.invariant.kept in
     record { sound = kept.sound; fits = kept.fits; named = λ u w h l. omega (arith, c.requires.named u w h l, kept.grown.counts); place = c.requires.within c.loop-i.i c.loop-i-test.true }
 
-pub returns-in-err-scale : goal.returns-in-err-scale
-returns-in-err-scale c =
-    let p = err_from_is_err_and c.from-residual.result c.from-residual.ensures.1 in
-    let e = c.in-err-scale.ensures in
+pub returns-in_err-scale : goal.returns-in_err-scale
+returns-in_err-scale c =
+    let p = err_from_is_err_and c.from_residual.result c.from_residual.ensures.1 in
+    let e = c.in_err-scale.ensures in
     let P = (planned c.args.plan.now).table in
     let vs = c.args.formats.now in
     let i = c.loop-i.i in
@@ -49,9 +49,9 @@ returns-in-err-scale c =
       kept = row_kept_on c.loop-i.invariant.kept e.kept;
     }
 
-pub pass-all-requires : goal.pass-all-requires
-pass-all-requires c =
-    let scaled = c.in-ok-scale.ensures.kept in
+pub pass_all-requires : goal.pass_all-requires
+pass_all-requires c =
+    let scaled = c.in_ok-scale.ensures.kept in
     let kept = row_kept_on c.loop-i.invariant.kept scaled in
     record {
       sound = scaled.sound;
@@ -61,11 +61,11 @@ pass-all-requires c =
       to = rest-formats (planned c.args.plan.now).formats c.args.formats.now (c.loop-i.i + 1) c.requires.within;
     }
 
-pub returns-in-err-pass-all : goal.returns-in-err-pass-all
-returns-in-err-pass-all c =
-    let p = err_from_is_err_and c.from-residual-in-err-pass-all.result c.from-residual-in-err-pass-all.ensures.1 in
-    let scaled = c.in-ok-scale.ensures in
-    let e = c.in-err-pass-all.ensures in
+pub returns-in_err-pass_all : goal.returns-in_err-pass_all
+returns-in_err-pass_all c =
+    let p = err_from_is_err_and c.from_residual-in_err-pass_all.result c.from_residual-in_err-pass_all.ensures.1 in
+    let scaled = c.in_ok-scale.ensures in
+    let e = c.in_err-pass_all.ensures in
     let P = (planned c.args.plan.now).table in
     let vs = c.args.formats.now in
     let i = c.loop-i.i in
@@ -79,8 +79,8 @@ returns-in-err-pass-all c =
 
 pub loop-i-preserved : goal.loop-i-preserved
 loop-i-preserved c =
-    let scaled = c.in-ok-scale.ensures in
-    let e = c.in-ok-pass-all.ensures in
+    let scaled = c.in_ok-scale.ensures in
+    let e = c.in_ok-pass_all.ensures in
     let P = (planned c.args.plan.now).table in
     let vs = c.args.formats.now in
     let i = c.loop-i.i in

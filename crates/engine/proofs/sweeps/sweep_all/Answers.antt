@@ -11,8 +11,8 @@ use Rattle.engine.proofs.Leaving.{components-first}
 use Rattle.engine.proofs.Moved.{row_kept_on, some-on, sofar_on, none_left}
 use Rattle.engine.proofs.sweeps.sweep_all.Goals as goal
 
-pub go-through-requires : goal.go-through-requires
-go-through-requires c =
+pub go_through-requires : goal.go_through-requires
+go_through-requires c =
     let kept = c.loop-c.invariant.kept in
     record {
       sound = kept.sound;
@@ -23,11 +23,11 @@ go-through-requires c =
       component = omega (arith, c.components-c-end.ensures);
     }
 
-pub returns-in-err-go-through : goal.returns-in-err-go-through
+pub returns-in_err-go_through : goal.returns-in_err-go_through
 unfolding tracing
-returns-in-err-go-through c =
-    let q = err_from_is_err_and c.from-residual.result c.from-residual.ensures.1 in
-    let e = c.in-err-go-through.ensures in
+returns-in_err-go_through c =
+    let q = err_from_is_err_and c.from_residual.result c.from_residual.ensures.1 in
+    let e = c.in_err-go_through.ensures in
     let p = planned c.args.plan.now in
     let moves = through_component (drawn p.formats c.args.steps.now) p.component in
     let i = c.loop-c.c in
@@ -40,7 +40,7 @@ returns-in-err-go-through c =
 
 pub loop-c-preserved : goal.loop-c-preserved
 loop-c-preserved c =
-    let e = c.in-ok-go-through.ensures in
+    let e = c.in_ok-go_through.ensures in
     let p = planned c.args.plan.now in
     let moves = through_component (drawn p.formats c.args.steps.now) p.component in
     let i = c.loop-c.c in

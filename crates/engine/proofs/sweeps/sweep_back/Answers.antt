@@ -32,8 +32,8 @@ loop-i-init c =
       run = ap (λ ws. run_moves (planned c.args.plan.now).table (contents c.args.store.now) (row_of c.args.row.now) (sweep_back [] ws)) (take_all (length vs) vs (omega arith));
     }
 
-pub pass-all-requires : goal.pass-all-requires
-pass-all-requires c =
+pub pass_all-requires : goal.pass_all-requires
+pass_all-requires c =
     let kept = c.loop-i.invariant.kept in
     let vs = c.args.formats.now in
     let i = c.loop-i.i - 1 in
@@ -47,7 +47,7 @@ pass-all-requires c =
 
 pub loop-i-preserved : goal.loop-i-preserved
 loop-i-preserved c =
-    let e = c.in-ok-pass-all.ensures in
+    let e = c.in_ok-pass_all.ensures in
     let vs = c.args.formats.now in
     let i = c.loop-i.i - 1 in
     record {
@@ -55,10 +55,10 @@ loop-i-preserved c =
       run = some-on (planned c.args.plan.now).table c.loop-i.invariant (map (pass (get_or vs i 0)) (take i vs)) (sweep_back [] (take i vs)) (last_first vs c.loop-i.i c.loop-i-test.true (omega arith)) e.run;
     }
 
-pub returns-in-err-pass-all : goal.returns-in-err-pass-all
-returns-in-err-pass-all c =
-    let p = err_from_is_err_and c.from-residual.result c.from-residual.ensures.1 in
-    let e = c.in-err-pass-all.ensures in
+pub returns-in_err-pass_all : goal.returns-in_err-pass_all
+returns-in_err-pass_all c =
+    let p = err_from_is_err_and c.from_residual.result c.from_residual.ensures.1 in
+    let e = c.in_err-pass_all.ensures in
     let vs = c.args.formats.now in
     let i = c.loop-i.i - 1 in
     record {

@@ -12,5 +12,5 @@ returns g c =
     let read = values (everywhere m) (weight_in m c.args.weights.now) (take c.args.count c.args.records.now) in
     record {
       memo = c.read.ensures ∙ ap (λ k. read ++ drop k c.args.memo.now) (length-take-le c.args.count c.args.records.now c.requires.within);
-      answers = c.write-answers.ensures m.on.zero;
+      answers = c.write_answers.ensures m.on.zero;
     }

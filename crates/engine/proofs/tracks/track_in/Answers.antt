@@ -36,8 +36,8 @@ run_so s added records heads plan source count e f =
 counted_so : (s : SealedCounts) (k : ℕ) → 2 ≤ k → k ≤ 131072 → recounted s k ≡ counting s k
 counted_so s k h l = cond-true _ _ _ (and_from _ _ (le-leb _ _ h) (le-leb _ _ l))
 
-pub trace-in-traced-requires : goal.trace-in-traced-requires
-trace-in-traced-requires c =
+pub trace_in-traced-requires : goal.trace_in-traced-requires
+trace_in-traced-requires c =
     let sealed = c.args.sealed.now in
     let u = c.requires.undamaged in
     let same = plan-formats u in
@@ -54,13 +54,13 @@ pub returns : goal.returns
 returns c =
     let s = sealed_counts c.args.sealed.now in
     let plan = planned c.args.plan.now in
-    let e = c.trace-in-traced.ensures in
-    let after = contents c.trace-in-traced.new.store in
-    let counted = c.count-records.ensures ∙ counted_so s after.count e.kept.sound.begun (omega (arith, e.kept.sound.room)) in
+    let e = c.trace_in-traced.ensures in
+    let after = contents c.trace_in-traced.new.store in
+    let counted = c.count_records.ensures ∙ counted_so s after.count e.kept.sound.begun (omega (arith, e.kept.sound.room)) in
     let run = run_so s c.args.steps.now c.args.store.now.records.now c.args.store.now.heads.now plan c.args.source c.args.store.now.count c.requires.counted (plan-formats c.requires.undamaged) in
     record {
       tracked =
-          (λ i. record { answer = outcome row_of c.trace-in-traced.result; state = counted i; records = after.records; heads = after.heads })
-          ∙ seen_so s c.trace-in-traced.result after ∙ ap (tracked_by s) (e.run ∙ run);
+          (λ i. record { answer = outcome row_of c.trace_in-traced.result; state = counted i; records = after.records; heads = after.heads })
+          ∙ seen_so s c.trace_in-traced.result after ∙ ap (tracked_by s) (e.run ∙ run);
       lent = e.kept.lent;
     }

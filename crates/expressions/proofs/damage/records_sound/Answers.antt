@@ -5,11 +5,11 @@ use Rattle.expressions.proofs.SoundRecords.{records_decide}
 use Rattle.expressions.proofs.damage.records_sound.Goals as goal
 
 pub loop-i-preserved : goal.loop-i-preserved
-loop-i-preserved c = passed_more _ _ _ _ c.loop-i-test.true (sym c.if-not-record-sound.ensures) c.loop-i.invariant
+loop-i-preserved c = passed_more _ _ _ _ c.loop-i-test.true (sym c.if-not-record_sound.ensures) c.loop-i.invariant
 
-pub returns-then-not-record-sound : goal.returns-then-not-record-sound
-returns-then-not-record-sound c =
-    let fails = sym (failed_at _ _ _ _ c.loop-i-test.true (sym c.if-not-record-sound.ensures) c.loop-i.invariant) in
+pub returns-then-not-record_sound : goal.returns-then-not-record_sound
+returns-then-not-record_sound c =
+    let fails = sym (failed_at _ _ _ _ c.loop-i-test.true (sym c.if-not-record_sound.ensures) c.loop-i.invariant) in
     record { value = fails; exact = Decides-at _ _ fails (records_decide _ _) }
 
 pub returns : goal.returns

@@ -1,5 +1,5 @@
 -- The plan is worked out by the run of the acts of sealing, or the run stops where the store is full. Assumes nothing.
-use Rattle.std.proofs.Common.{◌≡◌, ℕ, length, get_or, take, sym, refl, ap, ◌∙◌, subst, arith}
+use Rattle.std.proofs.Common.{◌≡◌, ℕ, length, get_or, take, sym, ap, ◌∙◌, subst, arith}
 use Rattle.std.proofs.lemmas.Result.{err_from_is_err_and}
 use Rattle.refusals.specs.Refused.{done}
 use Rattle.elimination.specs.Networks.{Joined}
@@ -46,20 +46,26 @@ tabulate-requires c =
     }
 
 -- what the type of a plan says
-pub invariant-of-plan : goal.invariant-of-plan
-invariant-of-plan c =
+pub invariant_of-plan : goal.invariant_of-plan
+invariant_of-plan c =
     let N = drawn c.args.formats c.args.steps.now in
     let counts = lowest-within c.args.formats (λ k. every N.formats (listed N k)) in
-    let fits = c.in-ok-tabulate.ensures.kept.fits in
-    (c.requires.few, (omega (arith, c.list-components.ensures.count), (c.list-components.ensures.listing.counted, (c.order-order.ensures, ((λ u w h l. (fits.each u (omega arith)).in_use w), tt)))))
+    let fits = c.in_ok-tabulate.ensures.kept.fits in
+    record {
+      few = c.requires.few;
+      bounded = omega (arith, c.list-components.ensures.count);
+      counted = c.list-components.ensures.listing.counted;
+      listed = c.order-order.ensures;
+      in_use = λ u w h l. (fits.each u (omega arith)).in_use w;
+    }
 
-pub returns-in-err-tabulate : goal.returns-in-err-tabulate
-returns-in-err-tabulate c =
-    let p = err_from_is_err_and c.from-residual.result c.from-residual.ensures.1 in
+pub returns-in_err-tabulate : goal.returns-in_err-tabulate
+returns-in_err-tabulate c =
+    let p = err_from_is_err_and c.from_residual.result c.from_residual.ensures.1 in
     let n = c.args.formats in
     let steps = c.args.steps.now in
     let l = c.list-components.ensures in
-    let e = c.in-err-tabulate.ensures in
+    let e = c.in_err-tabulate.ensures in
     let run = ran_is n steps c.list-components.result.count c.list-components.result.of c.order-order.result l.count l.of l.past l.listing c.order-order.ensures
     c.empty-rows.result c.clear.ensures.cleared c.empty-rows.ensures e.run in
     record {
@@ -74,7 +80,7 @@ returns c =
     let n = c.args.formats in
     let steps = c.args.steps.now in
     let l = c.list-components.ensures in
-    let e = c.in-ok-tabulate.ensures in
+    let e = c.in_ok-tabulate.ensures in
     let run = ran_is n steps c.list-components.result.count c.list-components.result.of c.order-order.result l.count l.of l.past l.listing c.order-order.ensures
     c.empty-rows.result c.clear.ensures.cleared c.empty-rows.ensures e.run in
     let plan = plan_is n steps c.list-components.result.count c.list-components.result.of c.order-order.result l.count l.of l.past l.listing c.order-order.ensures

@@ -20,11 +20,11 @@ room c =
     more_formats (drawn c.args.formats c.args.steps.now) c.close.new.masks c.turned-into.result c.loop-v.invariant.0
     c.loop-v.count c.loop-v.listed c.loop-v.of c.loop-v.invariant.1 c.requires.joined c.in-Some.v c.in-Some.ensures.0 c.in-Some.ensures.1
 
-pub overflow-cast-count : goal.overflow-cast-count
-overflow-cast-count c = let left = room (goal.at.overflow-cast-count c).In-Some in omega arith
+pub overflow_cast-count : goal.overflow_cast-count
+overflow_cast-count c = let left = room (goal.at.overflow_cast-count c).In-Some in omega arith
 
-pub overflow-add-count : goal.overflow-add-count
-overflow-add-count c = let left = room (goal.at.overflow-add-count c).In-Some in omega arith
+pub overflow_add-count : goal.overflow_add-count
+overflow_add-count c = let left = room (goal.at.overflow_add-count c).In-Some in omega arith
 
 pub loop-v-smaller : goal.loop-v-smaller
 loop-v-smaller c = let left = room (goal.at.loop-v-smaller c).In-Some in omega arith
@@ -41,7 +41,7 @@ pub returns : goal.returns
 returns c =
     let N = drawn c.args.formats c.args.steps.now in
     let (known, sofar) = c.loop-v.invariant in
-    let none = c.in-default.ensures in
+    let none = c.in_default.ensures in
     record {
       count = count-all N _ _ known _ _ _ sofar c.requires.joined none;
       of = numbers_all N _ _ known _ _ _ sofar c.requires.joined none;

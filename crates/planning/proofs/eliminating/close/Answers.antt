@@ -1,9 +1,9 @@
 -- The entry is closed in its place. Assumes nothing.
-use Rattle.std.proofs.Common.{◌≡◌, ℕ, sym, ap, ◌∙◌, subst}
+use Rattle.std.proofs.Common.{ℕ, ap, ◌∙◌}
 use Rattle.expressions.specs.Contents.{Contents, contents}
 use Rattle.expressions.specs.Making.{repeat_made}
 use Rattle.elimination.specs.Moves.{put}
-use Rattle.planning.specs.Running.{Ran, through, then_with}
+use Rattle.planning.specs.Running.{Ran, through}
 use Rattle.planning.specs.Tables.{table_of}
 use Rattle.planning.proofs.Entries.{entry_put, entry_fits}
 use Rattle.planning.proofs.Runs.{made-on}
@@ -11,9 +11,9 @@ use Rattle.planning.proofs.eliminating.close.Goals as goal
 
 pub returns : goal.returns
 returns c =
-    let made = c.in-ok-closed.ensures in
+    let made = c.in_ok-closed.ensures in
     let v = c.args.v in
-    let x = c.in-ok-closed.closed in
+    let x = c.in_ok-closed.closed in
     let rows = c.args.rows.now in
     let P = table_of rows in
     let next : ℕ → Contents → Ran (ℕ → ℕ → ℕ) = λ x d. through d (put v (put v x (P v)) P) in

@@ -13,9 +13,9 @@ use Rattle.planning.proofs.eliminating.eliminate.Goals as goal
 rest-places : (xs : List ℕ) (n : ℕ) → Places xs → Places (drop n xs)
 rest-places xs n h k = subst (λ x. x < 32) (sym (get_or-drop n xs k 0)) (h (n + k))
 
-pub free-all-requires : goal.free-all-requires
-free-all-requires c =
-    let kept = c.in-ok-close.ensures.kept in
+pub free_all-requires : goal.free_all-requires
+free_all-requires c =
+    let kept = c.in_ok-close.ensures.kept in
     let formats = c.args.formats.now in
     record {
       sound = kept.sound;
@@ -37,8 +37,8 @@ turned c d P Q v n formats closed freed =
 
 pub loop-i-preserved : goal.loop-i-preserved
 loop-i-preserved c =
-    let closed = c.in-ok-close.ensures in
-    let freed = c.in-ok-free-all.ensures in
+    let closed = c.in_ok-close.ensures in
+    let freed = c.in_ok-free_all.ensures in
     let formats = c.args.formats.now in
     let i = c.loop-i.i in
     let v = get_or formats i 0 in
@@ -48,11 +48,11 @@ loop-i-preserved c =
       run = left-first (turn v (drop (i + 1) formats)) c.loop-i.invariant c.loop-i-test.true refl run;
     }
 
-pub returns-in-err-free-all : goal.returns-in-err-free-all
-returns-in-err-free-all c =
-    let p = err_from_is_err_and c.from-residual-in-err-free-all.result c.from-residual-in-err-free-all.ensures.1 in
-    let closed = c.in-ok-close.ensures in
-    let freed = c.in-err-free-all.ensures in
+pub returns-in_err-free_all : goal.returns-in_err-free_all
+returns-in_err-free_all c =
+    let p = err_from_is_err_and c.from_residual-in_err-free_all.result c.from_residual-in_err-free_all.ensures.1 in
+    let closed = c.in_ok-close.ensures in
+    let freed = c.in_err-free_all.ensures in
     let formats = c.args.formats.now in
     let i = c.loop-i.i in
     let v = get_or formats i 0 in
@@ -62,10 +62,10 @@ returns-in-err-free-all c =
       kept = kept_on c.loop-i.invariant.kept (kept_on closed.kept freed.kept);
     }
 
-pub returns-in-err-close : goal.returns-in-err-close
-returns-in-err-close c =
-    let p = err_from_is_err_and c.from-residual.result c.from-residual.ensures.1 in
-    let e = c.in-err-close.ensures in
+pub returns-in_err-close : goal.returns-in_err-close
+returns-in_err-close c =
+    let p = err_from_is_err_and c.from_residual.result c.from_residual.ensures.1 in
+    let e = c.in_err-close.ensures in
     let formats = c.args.formats.now in
     let v = get_or formats c.loop-i.i 0 in
     let later = drop (c.loop-i.i + 1) formats in

@@ -1,5 +1,5 @@
 -- Each turn eliminates the formats of the first of the components that are left. Assumes nothing.
-use Rattle.std.proofs.Common.{◌≡◌, ℕ, ◌+◌, ◌<◌, List, ◌∷◌, ◌++◌, length, get_or, drop, sym, refl, ap, ◌∙◌, subst, arith, rules}
+use Rattle.std.proofs.Common.{◌≡◌, ℕ, ◌+◌, ◌<◌, List, ◌∷◌, ◌++◌, length, get_or, drop, sym, ap, ◌∙◌, subst, arith, rules}
 use Rattle.std.proofs.lemmas.Result.{err_from_is_err_and}
 use Rattle.elimination.specs.Moves.{Act, for_each, below, eliminate}
 use Rattle.expressions.specs.Contents.{contents}
@@ -47,10 +47,10 @@ eliminate-requires c =
     let turn = standing_turn (length order) components.count (of components) order c.loop-c.c c.loop-c.start _ c.loop-c-test.true c.loop-c.invariant.1 c.group-formats.ensures in
     record { sound = kept.sound; fits = kept.fits; places = subst Places (sym turn.0) (members-places (length order) (of components) c.requires.few c.loop-c.c) }
 
-pub returns-in-err-eliminate : goal.returns-in-err-eliminate
-returns-in-err-eliminate c =
-    let p = err_from_is_err_and c.from-residual.result c.from-residual.ensures.1 in
-    let e = c.in-err-eliminate.ensures in
+pub returns-in_err-eliminate : goal.returns-in_err-eliminate
+returns-in_err-eliminate c =
+    let p = err_from_is_err_and c.from_residual.result c.from_residual.ensures.1 in
+    let e = c.in_err-eliminate.ensures in
     let components = c.args.components.now in
     let order = c.args.order.now in
     let i = c.loop-c.c in
@@ -62,8 +62,8 @@ returns-in-err-eliminate c =
       kept = kept_on c.loop-c.invariant.0.kept e.kept;
     }
 
-pub overflow-add-start : goal.overflow-add-start
-overflow-add-start c =
+pub overflow_add-start : goal.overflow_add-start
+overflow_add-start c =
     let components = c.args.components.now in
     let order = c.args.order.now in
     let turn = standing_turn (length order) components.count (of components) order c.loop-c.c c.loop-c.start _ c.loop-c-test.true c.loop-c.invariant.1 c.group-formats.ensures in
@@ -71,7 +71,7 @@ overflow-add-start c =
 
 pub loop-c-preserved : goal.loop-c-preserved
 loop-c-preserved c =
-    let e = c.in-ok-eliminate.ensures in
+    let e = c.in_ok-eliminate.ensures in
     let components = c.args.components.now in
     let order = c.args.order.now in
     let i = c.loop-c.c in

@@ -1,21 +1,20 @@
 -- Each turn frees the first of the rows that are left. Assumes nothing.
-use Rattle.std.proofs.Common.{◌≡◌, List, get_or, refl}
+use Rattle.std.proofs.Common.{get_or, refl}
 use Rattle.std.proofs.lemmas.Result.{err_from_is_err_and}
-use Rattle.elimination.specs.Moves.{Act}
 use Rattle.planning.specs.Running.{freeing}
 use Rattle.planning.proofs.Runs.{kept_on, left-first, left_none}
 use Rattle.planning.proofs.eliminating.free_all.Goals as goal
 
 pub loop-u-preserved : goal.loop-u-preserved
 loop-u-preserved c =
-    let e = c.in-ok-free.ensures in
+    let e = c.in_ok-free.ensures in
     let first = freeing c.args.v c.args.later.now (get_or c.args.later.now c.loop-u.u-index 0) in
     record { kept = kept_on c.loop-u.invariant.kept e.kept; run = left-first first c.loop-u.invariant c.loop-u-test.true refl e.run }
 
-pub returns-in-err-free : goal.returns-in-err-free
-returns-in-err-free c =
-    let p = err_from_is_err_and c.from-residual.result c.from-residual.ensures.1 in
-    let e = c.in-err-free.ensures in
+pub returns-in_err-free : goal.returns-in_err-free
+returns-in_err-free c =
+    let p = err_from_is_err_and c.from_residual.result c.from_residual.ensures.1 in
+    let e = c.in_err-free.ensures in
     let first = freeing c.args.v c.args.later.now (get_or c.args.later.now c.loop-u.u-index 0) in
     record {
       run = rw (p.1, p.2) (left-first first c.loop-u.invariant c.loop-u-test.true refl e.run);

@@ -1,5 +1,5 @@
 -- Each turn loads the first of the steps that are left, if it is in force. Assumes nothing.
-use Rattle.std.proofs.Common.{◌≡◌, ℕ, ◌+◌, List, [], length, get_or, drop, sym, refl, ap, ◌∙◌, arith}
+use Rattle.std.proofs.Common.{◌+◌, [], get_or, drop, sym, refl, ap, arith}
 use Rattle.std.proofs.lemmas.Result.{err_from_is_err_and}
 use Rattle.std.proofs.lemmas.Bool.{not-true, not-false}
 use Rattle.expressions.specs.Contents.{contents}
@@ -15,15 +15,15 @@ bounds-component-from c = (joins _ _ c.loop-j-test.true c.requires.joined (not-f
 pub bounds-component-to : goal.bounds-component-to
 bounds-component-to c = (joins _ _ c.loop-j-test.true c.requires.joined (not-false _ c.if-not-step.false)).1
 
-pub load-step-requires : goal.load-step-requires
-load-step-requires c =
+pub load_step-requires : goal.load_step-requires
+load_step-requires c =
     let kept = c.loop-j.invariant.kept in
     let ends = joins _ _ c.loop-j-test.true c.requires.joined (not-false _ c.if-not-step.false) in
     record { sound = kept.sound; fits = kept.fits; from = ends.0; to = ends.1 }
 
 pub loop-j-preserved : goal.loop-j-preserved
 loop-j-preserved c =
-    let e = c.in-ok-load-step.ensures in
+    let e = c.in_ok-load_step.ensures in
     let steps = c.args.steps.now in
     let j = c.loop-j.j in
     let long = length_numbers steps in
@@ -41,10 +41,10 @@ loop-j-preserved-then-not-step c =
     let past = loads_past steps j c.loop-j-test.true (λ v. get_or c.args.component.now v 0) (drop (j + 1) (numbers steps)) (not-true _ c.if-not-step.true) in
     record { kept = c.loop-j.invariant.kept; run = left-first [] c.loop-j.invariant (omega arith) past refl }
 
-pub returns-in-err-load-step : goal.returns-in-err-load-step
-returns-in-err-load-step c =
-    let p = err_from_is_err_and c.from-residual.result c.from-residual.ensures.1 in
-    let e = c.in-err-load-step.ensures in
+pub returns-in_err-load_step : goal.returns-in_err-load_step
+returns-in_err-load_step c =
+    let p = err_from_is_err_and c.from_residual.result c.from_residual.ensures.1 in
+    let e = c.in_err-load_step.ensures in
     let steps = c.args.steps.now in
     let j = c.loop-j.j in
     let long = length_numbers steps in

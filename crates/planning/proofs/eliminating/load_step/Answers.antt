@@ -1,5 +1,5 @@
 -- The step is made, and the sum with it written in its place. Assumes nothing.
-use Rattle.std.proofs.Common.{◌≡◌, Bool, sym, ap, ◌∙◌, rules}
+use Rattle.std.proofs.Common.{sym, ap, ◌∙◌, rules}
 use Rattle.std.proofs.lemmas.Result.{err_from_is_err_and}
 use Rattle.elimination.specs.Moves.{load}
 use Rattle.expressions.specs.Contents.{contents}
@@ -10,18 +10,18 @@ use Rattle.planning.proofs.Entries.{entry_put, entry_fits, table_stays}
 use Rattle.planning.proofs.Runs.{grown-on, lent-on, loaded}
 use Rattle.planning.proofs.eliminating.load_step.Goals as goal
 
-pub returns-in-ok-sum : goal.returns-in-ok-sum
-returns-in-ok-sum c =
-    let step = c.in-ok-step.ensures in
-    let made = c.in-ok-sum.ensures in
+pub returns-in_ok-sum : goal.returns-in_ok-sum
+returns-in_ok-sum c =
+    let step = c.in_ok-step.ensures in
+    let made = c.in_ok-sum.ensures in
     let rows = c.args.rows.now in
     let P = table_of rows in
     let store = contents c.args.store.now in
     let j = c.args.j in
     let from = c.args.from in
     let to = c.args.to in
-    let x = c.in-ok-sum.sum in
-    let sum = made.made ∙ ap (λ y. sum_made (contents c.step.new.self) y c.in-ok-step.step) c.get.ensures in
+    let x = c.in_ok-sum.sum in
+    let sum = made.made ∙ ap (λ y. sum_made (contents c.step.new.self) y c.in_ok-step.step) c.get.ensures in
     let grown = grown-on step.grown made.grown in
     rw c.write.ensures record {
       run =
@@ -36,17 +36,17 @@ returns-in-ok-sum c =
       };
     }
 
-pub returns-in-err-sum : goal.returns-in-err-sum
-returns-in-err-sum c =
-    let p = err_from_is_err_and c.from-residual-in-err-sum.result c.from-residual-in-err-sum.ensures.1 in
-    let step = c.in-ok-step.ensures in
-    let made = c.in-err-sum.ensures in
+pub returns-in_err-sum : goal.returns-in_err-sum
+returns-in_err-sum c =
+    let p = err_from_is_err_and c.from_residual-in_err-sum.result c.from_residual-in_err-sum.ensures.1 in
+    let step = c.in_ok-step.ensures in
+    let made = c.in_err-sum.ensures in
     let P = table_of c.args.rows.now in
     let store = contents c.args.store.now in
     let j = c.args.j in
     let from = c.args.from in
     let to = c.args.to in
-    let sum = made.made ∙ ap (λ y. sum_made (contents c.step.new.self) y c.in-ok-step.step) c.get.ensures in
+    let sum = made.made ∙ ap (λ y. sum_made (contents c.step.new.self) y c.in_ok-step.step) c.get.ensures in
     let grown = grown-on step.grown made.grown in
     record {
       run = rw (p.1, p.2) (loaded P store j from to step.made sum ∙ ap (λ b. act_in store P (load j from to b)) (sym c.if-shared.true));

@@ -1,5 +1,5 @@
 -- The row's own move is the act on the table. Assumes nothing.
-use Rattle.std.proofs.Common.{◌≡◌, ap, ◌∙◌, arith}
+use Rattle.std.proofs.Common.{ap, ◌∙◌, arith}
 use Rattle.elimination.specs.Moves.{pass}
 use Rattle.expressions.specs.Contents.{contents}
 use Rattle.planning.specs.Running.{move_in}

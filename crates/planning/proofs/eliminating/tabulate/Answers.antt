@@ -23,10 +23,10 @@ sealed_by : (n : ℕ) (steps : List Step) (components : Components) (c : Content
 unfolding sealing
 sealed_by n steps components c P e = onward-on (rest n components) e ∙ run-++ c P (loads (drawn 32 steps) (λ v. get_or components.of v 0)) (rest n components)
 
-pub returns-in-err-load : goal.returns-in-err-load
-returns-in-err-load c =
-    let p = err_from_is_err_and c.from-residual.result c.from-residual.ensures.1 in
-    let e = c.in-err-load.ensures in
+pub returns-in_err-load : goal.returns-in_err-load
+returns-in_err-load c =
+    let p = err_from_is_err_and c.from_residual.result c.from_residual.ensures.1 in
+    let e = c.in_err-load.ensures in
     record {
       run = rw (p.1, p.2) (sealed_by (length c.args.order.now) c.args.steps.now c.args.components.now (contents c.args.store.now) (table_of c.args.rows.now) e.run);
       kept = e.kept;
@@ -34,8 +34,8 @@ returns-in-err-load c =
 
 pub returns : goal.returns
 returns c =
-    let loaded = c.in-ok-load.ensures in
-    let e = c.eliminate-all.ensures in
+    let loaded = c.in_ok-load.ensures in
+    let e = c.eliminate_all.ensures in
     record {
       run = e.run ∙ sealed_by (length c.args.order.now) c.args.steps.now c.args.components.now (contents c.args.store.now) (table_of c.args.rows.now) loaded.run;
       kept = kept_on loaded.kept e.kept;

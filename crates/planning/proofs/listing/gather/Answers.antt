@@ -8,16 +8,16 @@ use Rattle.planning.proofs.listing.gather.Goals.{then-of-v, else-of-v}
 pub loop-v-init : goal.loop-v-init
 loop-v-init c = (omega arith, c.told-order, λ xs b s. b ∙ ap padded (sym (append-nil xs)))
 
-pub offset-bounds-order-end : goal.offset-bounds-order-end
-offset-bounds-order-end c =
+pub offset_bounds-order-end : goal.offset_bounds-order-end
+offset_bounds-order-end c =
     let room = gathered_room _ _ _ _ _ _ _ _ c.loop-v-test.true c.if-of-v.true c.requires.room c.loop-v.invariant in
     omega arith
 
 pub bounds-order-end : goal.bounds-order-end
 bounds-order-end c = gathered_room _ _ _ _ _ _ _ _ c.loop-v-test.true c.if-of-v.true c.requires.room c.loop-v.invariant
 
-pub overflow-add-end : goal.overflow-add-end
-overflow-add-end c =
+pub overflow_add-end : goal.overflow_add-end
+overflow_add-end c =
     let room = gathered_room _ _ _ _ _ _ _ _ c.loop-v-test.true c.if-of-v.true c.requires.room c.loop-v.invariant in
     omega arith
 

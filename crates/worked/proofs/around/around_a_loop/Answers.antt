@@ -8,7 +8,7 @@ use Rattle.worked.proofs.around.around_a_loop.Goals as goal
 
 pub returns-in-Err : goal.returns-in-Err
 returns-in-Err g c =
-    absurd (not-refused c.in-Err.back c.new-plan.ensures c.in-ok-draft.ensures.value c.in-Err.ensures.settled)
+    absurd (not-refused c.in-Err.back c.new-plan.ensures c.in_ok-draft.ensures.value c.in-Err.ensures.settled)
 
 pub returns : goal.returns
 returns g c =
@@ -17,7 +17,7 @@ returns g c =
     let weights = c.args.weights.now in
     let memo = c.args.memo.now in
     let answers = c.args.answers.now in
-    let drawn = c.in-ok-draft.ensures in
+    let drawn = c.in_ok-draft.ensures in
     let settled = c.in-Ok.ensures.settled in
     let asked = ap (λ q. q.answer) c.query.ensures.after ∙ client_asked m laws c.in-Ok.sealed weights memo answers c.new-plan.ensures drawn.value settled in
     let history = then_seal c.in-Ok.sealed (replicate 32 blank) (replicate 1024 0) (planned c.new-plan.result) drawn.history settled in

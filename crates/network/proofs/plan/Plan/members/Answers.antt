@@ -22,8 +22,8 @@ loop-d-init c = let p = c.args.self.now in standing_first p.formats p.components
 pub group-requires : goal.group-requires
 group-requires c = record { within = c.loop-d.invariant.0; places = places_of c.args.self.now }
 
-pub overflow-add-start : goal.overflow-add-start
-overflow-add-start c =
+pub overflow_add-start : goal.overflow_add-start
+overflow_add-start c =
     let p = c.args.self.now in
     let turn = standing_turn p.formats p.components (λ v. get_or p.component v 0) (take p.formats p.order) c.loop-d.d c.loop-d.start _ (omega arith) c.loop-d.invariant c.group.ensures in
     let long = length-take p.formats p.order in

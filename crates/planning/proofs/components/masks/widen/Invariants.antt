@@ -1,4 +1,4 @@
-use Rattle.std.proofs.Common.{◌≡◌, ℕ, ◌<◌, cond, ◌&&◌, ◌||◌, ltb}
+use Rattle.std.proofs.Common.{◌≡◌, ℕ, ◌&&◌, ◌||◌, ltb}
 use Rattle.planning.specs.Bits.{goes}
 use Rattle.planning.proofs.components.masks.widen.Given as goal
 

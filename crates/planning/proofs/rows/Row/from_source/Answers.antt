@@ -1,5 +1,5 @@
 -- An empty row with stay written at the source. Assumes nothing.
-use Rattle.std.proofs.Common.{◌≡◌, length, sym, ap, ◌∙◌, subst, arith}
+use Rattle.std.proofs.Common.{sym, ap, ◌∙◌, subst, arith}
 use mathlib.Core.Path.{fun_ext}
 use Rattle.elimination.specs.Moves.{put}
 use Rattle.planning.specs.Tables.{row_of, RowFits}

@@ -9,11 +9,11 @@ use Rattle.planning.proofs.Entries.{row_put, row_stays, row_fits}
 use Rattle.planning.proofs.Runs.{grown-on, lent-on, passed}
 use Rattle.planning.proofs.rows.Row.pass.Goals as goal
 
-pub returns-in-err-self : goal.returns-in-err-self
-returns-in-err-self c =
-    let carried = c.in-ok-carried.ensures in
-    let made = c.in-err-self.ensures in
-    let p = err_from_is_err_and c.from-residual-in-err-self.result c.from-residual-in-err-self.ensures.1 in
+pub returns-in_err-self : goal.returns-in_err-self
+returns-in_err-self c =
+    let carried = c.in_ok-carried.ensures in
+    let made = c.in_err-self.ensures in
+    let p = err_from_is_err_and c.from_residual-in_err-self.result c.from_residual-in_err-self.ensures.1 in
     record {
       moved = rw (p.1, p.2) (passed (row_of c.args.self.now) (contents c.args.store.now) c.args.v c.args.w c.args.leads carried.made made.made);
       fits = row_stays made.grown.counts (row_stays carried.grown.counts (search rules));
@@ -24,10 +24,10 @@ returns-in-err-self c =
 
 pub returns : goal.returns
 returns c =
-    let carried = c.in-ok-carried.ensures in
-    let made = c.in-ok-self.ensures in
+    let carried = c.in_ok-carried.ensures in
+    let made = c.in_ok-self.ensures in
     let row = c.args.self.now in
-    let x = c.in-ok-self.field-0 in
+    let x = c.in_ok-self.field-0 in
     record {
       moved = ap (through (contents c.sum.new.self)) (row_put row c.args.w x (omega arith)) ∙ passed (row_of row) (contents c.args.store.now) c.args.v c.args.w c.args.leads carried.made made.made;
       fits = row_fits c.args.w x c.requires.to made.used (row_stays made.grown.counts (row_stays carried.grown.counts c.requires.fits));

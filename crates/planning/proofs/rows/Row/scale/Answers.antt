@@ -5,7 +5,7 @@ use Rattle.planning.proofs.rows.Row.scale.Goals as goal
 
 pub returns : goal.returns
 returns c =
-    let made = c.in-ok-self.ensures in
-    let written = row_put c.args.self.now c.args.v c.in-ok-self.field-0 (omega arith) in
-    let fits = row_fits c.args.v c.in-ok-self.field-0 c.requires.place made.used (row_stays made.grown.counts c.requires.fits) in
+    let made = c.in_ok-self.ensures in
+    let written = row_put c.args.self.now c.args.v c.in_ok-self.field-0 (omega arith) in
+    let fits = row_fits c.args.v c.in_ok-self.field-0 c.requires.place made.used (row_stays made.grown.counts c.requires.fits) in
     search rules
