@@ -1,6 +1,7 @@
 -- The row was traced, and read. Assumes nothing.
 use Rattle.std.proofs.Common.{◌≡◌, ◌≤◌, ◌++◌, length, get_or, take, drop, sym, refl, ap, ◌∙◌, subst, arith}
 use Rattle.std.proofs.lemmas.List.{length-take}
+use Rattle.std.proofs.lemmas.Result.{err_from_is_err_and}
 use Rattle.kleene.specs.Algebras.{everywhere}
 use Rattle.refusals.specs.Refused.{done}
 use Rattle.expressions.specs.Meanings.{values}
@@ -8,9 +9,9 @@ use Rattle.network.specs.Plans.{planned}
 use Rattle.network.specs.States.{sealed_counts}
 use Rattle.planning.specs.Tables.{row_of}
 use Rattle.engine.specs.Checks.{weighed}
-use Rattle.engine.specs.Querying.{QueryAfter, weight_in, member_in, queries}
+use Rattle.engine.specs.Querying.{QueryAfter, weight_in, member_in, queried_by, queries}
 use Rattle.engine.specs.Tracking.{tracked_by, ran_from, filled}
-use Rattle.engine.proofs.Ended.{query_ended, query_promises}
+use Rattle.engine.proofs.Ended.{query_tracked, query_ended, query_promises}
 use Rattle.engine.proofs.Readable.{Reads, tracked_reads}
 use Rattle.engine.proofs.Unseen.{retired_unseen}
 use Rattle.engine.proofs.calls.query.Goals as goal
@@ -93,3 +94,18 @@ returns g c =
       promises = query_promises m s steps records heads row weights memo answers plan source (g.met.A.Algebra.kleene c.args.algebra.now) refl e;
       unseen = retired_unseen m s steps records heads row weights memo answers plan source sealed.begun sealed.within;
     }
+
+-- the store was full
+pub returns-in_err-traced-clause-after : goal.returns-in_err-traced-clause-after
+returns-in_err-traced-clause-after g c =
+    let q = err_from_is_err_and c.from_residual-in_err-traced.result c.from_residual-in_err-traced.ensures.1 in
+    let m = g.A.Algebra.meaning c.args.algebra.now in
+    let s = sealed_counts c.args.sealed.now in
+    let steps = c.args.steps.now in
+    let row = c.args.row.now in
+    let weights = c.args.weights.now in
+    let memo = c.args.memo.now in
+    let answers = c.args.answers.now in
+    rw (q.1, q.2) (ap (queried_by m s row weights memo answers) (query_tracked m s steps c.args.records.now c.args.heads.now row weights memo answers (planned c.args.plan.now) c.args.source
+    (take c.step_count.result steps) (ap (λ k. take k steps) c.step_count.ensures) c.in_ok-long_enough.ensures.value c.in_ok-long_too.ensures.value c.in_ok-undamaged.ensures.value
+    c.in_ok-known.ensures.value c.in_ok-weighed.ensures c.in_err-traced.ensures))

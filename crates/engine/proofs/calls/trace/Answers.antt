@@ -1,11 +1,12 @@
 -- The row was traced, and written. Assumes nothing.
 use Rattle.std.proofs.Common.{◌≡◌, take, refl, ap, ◌∙◌}
+use Rattle.std.proofs.lemmas.Result.{err_from_is_err_and}
 use Rattle.refusals.specs.Refused.{done}
 use Rattle.network.specs.Plans.{planned}
 use Rattle.network.specs.States.{sealed_counts}
 use Rattle.planning.specs.Tables.{row_of}
-use Rattle.engine.specs.Tracking.{TraceAfter, filled, traces}
-use Rattle.engine.proofs.Ended.{trace_ended, trace-routes}
+use Rattle.engine.specs.Tracking.{TraceAfter, filled, traced_by, traces}
+use Rattle.engine.proofs.Ended.{trace_tracked, trace_ended, trace-routes}
 use Rattle.engine.proofs.calls.trace.Goals as goal
 
 pub returns : goal.returns
@@ -23,3 +24,13 @@ returns c =
     (c.write_row.ensures ∙ ap (λ n. filled found n row) c.formats-formats.ensures)
     c.in_ok-long_enough.ensures.value c.in_ok-undamaged.ensures.value c.in_ok-known.ensures.value c.in_ok-traced.ensures in
     record { after = e; routes = trace-routes s steps records heads row plan source refl e }
+
+-- the store was full
+pub returns-in_err-traced-clause-after : goal.returns-in_err-traced-clause-after
+returns-in_err-traced-clause-after c =
+    let q = err_from_is_err_and c.from_residual-in_err-traced.result c.from_residual-in_err-traced.ensures.1 in
+    let s = sealed_counts c.args.sealed.now in
+    let steps = c.args.steps.now in
+    let row = c.args.row.now in
+    rw (q.1, q.2) (ap (traced_by s row) (trace_tracked s steps c.args.records.now c.args.heads.now row (planned c.args.plan.now) c.args.source (take c.step_count.result steps)
+    (ap (λ k. take k steps) c.step_count.ensures) c.in_ok-long_enough.ensures.value c.in_ok-undamaged.ensures.value c.in_ok-known.ensures.value c.in_err-traced.ensures))

@@ -8,7 +8,7 @@ use Rattle.planning.specs.Components.{lowest}
 use Rattle.planning.proofs.Lowest.{lowest_is, lowest_none}
 use Rattle.engine.specs.Querying.{member_in}
 use Rattle.engine.proofs.checks.weighed.Goals as goal
-use Rattle.engine.proofs.checks.weighed.Goals.{else-added-j-via-then-added-j+else-not-is-member, else-added-j-via-else-added-j}
+use Rattle.engine.proofs.checks.weighed.Goals.{else-added-j-via-then-added-j+else-not-is_member, else-added-j-via-else-added-j}
 
 -- the first of the steps in force whose weight is no member is named
 first_named : (n j : ℕ) (test : ℕ → Bool) → j < n → test j ≡ true → ((k : ℕ) → k < j → test k ≡ false) →

@@ -13,7 +13,7 @@ use Rattle.engine.specs.Rows.{leaves}
 use Rattle.engine.proofs.Leaving.{leaving_of, leaving-first, leaving_past}
 use Rattle.engine.proofs.Moved.{row_kept_on, some-on, one_on, sofar_as, none_left}
 use Rattle.engine.proofs.sweeps.leave.Goals as goal
-use Rattle.engine.proofs.sweeps.leave.Goals.{then-leaves+in-ok-cross, else-leaves}
+use Rattle.engine.proofs.sweeps.leave.Goals.{then-leaves+in_ok-cross, else-leaves}
 
 -- step j is crossed before those that are left after it
 next-first : (n : ℕ) (steps : List Step) (component : ℕ → ℕ) (c j : ℕ) → j < length steps → leaves component c (get_or steps j no_step) ≡ true →
@@ -54,7 +54,7 @@ loop-j-preserved c =
     let j = c.loop-j.j in
     let left = leaving_of p.formats steps p.component c.args.c (drop (j + 1) (numbers steps)) in
     elim c.if-leaves.branch [
-      | then-leaves+in-ok-cross w ↦
+      | then-leaves+in_ok-cross w ↦
           let e = w.in_ok-cross.ensures in
           let split = next-first p.formats steps p.component c.args.c j c.loop-j-test.true (sym c.leaves.ensures ∙ w.if-leaves.true) in
           sofar_as p.table w.store-is w.row-is (record {
