@@ -241,8 +241,8 @@ mod tests {
         assert_eq!(rt; network.size(), (1, 8));
         assert_eq!(rt; records, EXAMPLE);
         check_heads(&rt, &heads, &EXAMPLE_HEADS);
-        assert_eq!(rt; plan.order(), &[0, 1]);
-        assert_eq!(rt; plan.component(), &[0, 0]);
+        assert_eq!(rt; plan.order(), [0, 1].as_slice());
+        assert_eq!(rt; plan.component(), [0, 0].as_slice());
         check_table(&rt, &plan, [1, 2, 3, 7]);
         Ok(())
     }
@@ -255,8 +255,8 @@ mod tests {
         let mut plan = Plan::new();
         let network = sealed(draft, &steps, &mut [BLANK; 3], &mut [9; 1024], &mut plan)?;
         assert_eq!(rt; network.size(), (2, 3));
-        assert_eq!(rt; plan.order(), &[1, 0]);
-        assert_eq!(rt; plan.component(), &[1, 0]);
+        assert_eq!(rt; plan.order(), [1, 0].as_slice());
+        assert_eq!(rt; plan.component(), [1, 0].as_slice());
         check_table(&rt, &plan, [1, 0, 0, 1]);
         Ok(())
     }
@@ -271,9 +271,9 @@ mod tests {
         let mut plan = Plan::new();
         let network = sealed(draft, &steps, &mut records, &mut [9; 1024], &mut plan)?;
         assert_eq!(rt; network.size(), (2, 3));
-        assert_eq!(rt; &records[2..], &[record(2, 1, 0, 0), BLANK]);
-        assert_eq!(rt; plan.order(), &[1, 0]);
-        assert_eq!(rt; plan.component(), &[1, 0]);
+        assert_eq!(rt; &records[2..], [record(2, 1, 0, 0), BLANK].as_slice());
+        assert_eq!(rt; plan.order(), [1, 0].as_slice());
+        assert_eq!(rt; plan.component(), [1, 0].as_slice());
         Ok(())
     }
 
@@ -302,17 +302,18 @@ mod tests {
         assert_eq!(rt; network.size(), (2, 12));
         assert_eq!(rt;
             &records[8..],
-            &[
+            [
                 record(2, 6, 0, 0),
                 record(2, 7, 0, 0),
                 record(4, 2, 9, 9),
                 record(5, 10, 0, 0),
                 BLANK
             ]
+            .as_slice()
         );
         assert_eq!(rt; (heads[219], heads[315], heads[1024]), (10, 11, 9));
-        assert_eq!(rt; plan.order(), &[2, 0, 1]);
-        assert_eq!(rt; plan.component(), &[1, 1, 0]);
+        assert_eq!(rt; plan.order(), [2, 0, 1].as_slice());
+        assert_eq!(rt; plan.component(), [1, 1, 0].as_slice());
         check_table(&rt, &plan, [1, 9, 2, 11]);
         Ok(())
     }
@@ -331,7 +332,7 @@ mod tests {
         assert_eq!(rt; refusal, (9, Some(8)));
         assert_eq!(rt;
             &fewer[5..],
-            &[record(2, 3, 0, 0), record(5, 5, 0, 0), record(4, 3, 6, 0)]
+            [record(2, 3, 0, 0), record(5, 5, 0, 0), record(4, 3, 6, 0)].as_slice()
         );
         check_table(&rt, &plan, [1, 2, 3, 7]);
         let mut records = [BLANK; 11];
@@ -339,7 +340,7 @@ mod tests {
         assert_eq!(rt; network.size(), (1, 11));
         assert_eq!(rt;
             &records[8..],
-            &[record(4, 7, 2, 0), record(3, 4, 8, 0), record(5, 9, 0, 0)]
+            [record(4, 7, 2, 0), record(3, 4, 8, 0), record(5, 9, 0, 0)].as_slice()
         );
         check_table(&rt, &plan, [6, 2, 7, 10]);
         Ok(())
