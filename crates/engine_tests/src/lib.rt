@@ -157,7 +157,7 @@ mod tests {
         trace(network, steps, records, heads, &mut row, plan, 0)?;
         assert_eq!(rt; row, [10, 8, 77]);
         assert_eq!(rt; network.size(), (1, 11));
-        assert_eq!(rt; &records[..11], &MADE);
+        assert_eq!(rt; &records[..11], MADE.as_slice());
         assert_eq!(rt; records[11], BLANK);
         check_heads(
             rt,
@@ -483,6 +483,7 @@ mod tests {
         // A trace and a query are refused so, and change nothing.
         fn check(
             self,
+            rt: &impl Abort,
             network: &mut Sealed,
             lengths: [usize; 7],
             plan: &Plan,
@@ -491,17 +492,17 @@ mod tests {
             queried: (usize, usize),
         ) -> Result<(), Fail> {
             let mut lent = self;
-            assert_eq!(lent.trace(network, lengths, plan, source), traced);
-            assert_eq!(lent.query(network, lengths, plan, source)?, queried);
-            assert_eq!(network.size(), (1, 8));
-            assert_eq!(lent, self);
+            assert_eq!(rt; lent.trace(network, lengths, plan, source), traced);
+            assert_eq!(rt; lent.query(network, lengths, plan, source)?, queried);
+            assert_eq!(rt; network.size(), (1, 8));
+            assert_eq!(rt; lent, self);
             Ok(())
         }
     }
 
     // Each refusal at its edge, where those that are tested later apply too: everything is wrong at first, and is put right in turn.
     #[test]
-    fn refusals() -> Result<(), Fail> {
+    fn refusals(rt: HostRuntime) -> Result<(), Fail> {
         let mut plan = Plan::new();
         let (mut network, right) = Buffers::new(&mut plan)?;
         let mut lent = right;
@@ -511,35 +512,35 @@ mod tests {
         lent.weights[1] = 64;
         lent.weights[2] = 64;
         for (lengths, traced, queried) in SHORT {
-            lent.check(&mut network, lengths, &Plan::new(), 2, traced, queried)?;
+            lent.check(&rt, &mut network, lengths, &Plan::new(), 2, traced, queried)?;
         }
-        lent.check(&mut network, WHOLE, &Plan::new(), 2, (7, 1), (7, 1))?;
+        lent.check(&rt, &mut network, WHOLE, &Plan::new(), 2, (7, 1), (7, 1))?;
         lent.steps[2] = right.steps[2];
-        lent.check(&mut network, WHOLE, &Plan::new(), 2, (7, 2), (7, 2))?;
+        lent.check(&rt, &mut network, WHOLE, &Plan::new(), 2, (7, 2), (7, 2))?;
         lent.records[7] = right.records[7];
-        lent.check(&mut network, WHOLE, &Plan::new(), 2, (7, 3), (7, 3))?;
+        lent.check(&rt, &mut network, WHOLE, &Plan::new(), 2, (7, 3), (7, 3))?;
         lent.heads[1023] = right.heads[1023];
-        lent.check(&mut network, WHOLE, &Plan::new(), 2, (7, 8), (7, 8))?;
-        lent.check(&mut network, WHOLE, &plan, 2, (2, 0), (2, 0))?;
-        lent.check(&mut network, WHOLE, &plan, 1, (9, 8), (8, 1))?;
-        right.check(&mut network, WHOLE, &plan, 1, (9, 8), (9, 8))
+        lent.check(&rt, &mut network, WHOLE, &Plan::new(), 2, (7, 8), (7, 8))?;
+        lent.check(&rt, &mut network, WHOLE, &plan, 2, (2, 0), (2, 0))?;
+        lent.check(&rt, &mut network, WHOLE, &plan, 1, (9, 8), (8, 1))?;
+        right.check(&rt, &mut network, WHOLE, &plan, 1, (9, 8), (9, 8))
     }
 
     // More kinds of damage: a step that leaves no format, a kind that there is not, a step that is not in force, and a plan that
     // names a record past the count.
     #[test]
-    fn damage() -> Result<(), Fail> {
+    fn damage(rt: HostRuntime) -> Result<(), Fail> {
         let mut plan = Plan::new();
         let (mut network, right) = Buffers::new(&mut plan)?;
         let mut lent = right;
         lent.steps[0].from = 2;
-        lent.check(&mut network, WHOLE, &plan, 0, (7, 1), (7, 1))?;
+        lent.check(&rt, &mut network, WHOLE, &plan, 0, (7, 1), (7, 1))?;
         lent = right;
         lent.records[7].kind = 6;
-        lent.check(&mut network, WHOLE, &plan, 0, (7, 2), (7, 2))?;
+        lent.check(&rt, &mut network, WHOLE, &plan, 0, (7, 2), (7, 2))?;
         lent = right;
         lent.steps[1].in_force = false;
-        lent.check(&mut network, WHOLE, &plan, 0, (7, 2), (7, 2))?;
+        lent.check(&rt, &mut network, WHOLE, &plan, 0, (7, 2), (7, 2))?;
         lent = right;
         sealed(
             2,
@@ -549,6 +550,6 @@ mod tests {
             &mut [9; 1024],
             &mut plan,
         )?;
-        lent.check(&mut network, WHOLE, &plan, 0, (7, 8), (7, 8))
+        lent.check(&rt, &mut network, WHOLE, &plan, 0, (7, 8), (7, 8))
     }
 }

@@ -43,7 +43,7 @@ impl From<anyhow::Error> for Fault {
 }
 
 // `COMMAND refused NUMBER: words`, or with the value that came beside the number.
-fn tell_refusal(out: &mut String, command: &str, refusal: Refusal) -> fmt::Result {
+fn tell_refusal(out: &mut String, command: &str, refusal: Refusal) -> Result<(), AllocError> {
     let number = refusal.number();
     match refusal.value() {
         Some(value) => writeln!(out, "{command} refused {number} {value}: {refusal}"),

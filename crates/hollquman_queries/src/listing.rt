@@ -2,11 +2,12 @@
 use crate::notation::Shown;
 use expressions::{Record, Step};
 use network::Plan;
+use std::alloc::AllocError;
 use std::fmt;
 use std::fmt::Write;
 
 // A line for each step.
-pub(crate) fn steps(out: &mut String, steps: &[Step]) -> fmt::Result {
+pub(crate) fn steps(out: &mut String, steps: &[Step]) -> Result<(), AllocError> {
     for (j, step) in steps.iter().enumerate() {
         let from = step.from;
         let to = step.to;
@@ -36,7 +37,7 @@ impl fmt::Display for ShownRecord {
 }
 
 // A line for each record.
-pub(crate) fn records(out: &mut String, records: &[Record]) -> fmt::Result {
+pub(crate) fn records(out: &mut String, records: &[Record]) -> Result<(), AllocError> {
     for (i, record) in records.iter().enumerate() {
         let what = ShownRecord(*record);
         let next = record.next;
@@ -51,7 +52,7 @@ pub(crate) fn answers<V: Copy>(
     reading: &str,
     source: usize,
     answers: &[V],
-) -> fmt::Result
+) -> Result<(), AllocError>
 where
     Shown<V>: fmt::Display,
 {
@@ -63,7 +64,7 @@ where
 }
 
 // Numbers that end a line.
-pub(crate) fn numbers(out: &mut String, numbers: &[u32]) -> fmt::Result {
+pub(crate) fn numbers(out: &mut String, numbers: &[u32]) -> Result<(), AllocError> {
     for number in numbers {
         write!(out, " {number}")?;
     }
@@ -71,7 +72,7 @@ pub(crate) fn numbers(out: &mut String, numbers: &[u32]) -> fmt::Result {
 }
 
 // The order of the formats, the component of each, and a line for each row of expressions.
-pub(crate) fn plan(out: &mut String, plan: &Plan) -> fmt::Result {
+pub(crate) fn plan(out: &mut String, plan: &Plan) -> Result<(), AllocError> {
     write!(out, "order:")?;
     numbers(out, plan.order())?;
     write!(out, "component:")?;

@@ -7,7 +7,7 @@ use crate::weights::Weights;
 use crate::{command, listing};
 use algebras::{Cost, Depth, Marks, Phase, Reach};
 use refusals::Buffer;
-use std::alloc::Global;
+use std::alloc::{AllocError, Global};
 use std::fmt;
 use std::fmt::Write;
 
@@ -51,7 +51,7 @@ pub(crate) struct Session {
 }
 
 // What is said of a line that is no command.
-fn not_understood(out: &mut String, number: u64, words: &[&str]) -> fmt::Result {
+fn not_understood(out: &mut String, number: u64, words: &[&str]) -> Result<(), AllocError> {
     write!(out, "line {number}: not understood:")?;
     for word in words {
         write!(out, " {word}")?;

@@ -10,7 +10,7 @@ loop-step-preserved g c =
     let o = everywhere (g.A.Algebra.meaning c.args.algebra.now) in
     let weights = c.args.weights.now in
     let j = get_or c.args.steps.now c.loop-step.step-index 0 in
-    let small : j < length weights = omega (arith, c.type-inv.steps c.loop-step.step-index, c.type-inv.weights) in
+    let small : j < length weights = omega (arith, c.type_inv.steps c.loop-step.step-index, c.type_inv.weights) in
     let read = get_or_default weights j c.index-weights-step.result o.one small in
     let pushed : vec_items c.push.new.self ≡ vec_items c.loop-step.chosen ++ get_or weights j c.index-weights-step.result ∷ [] =
     chosen _ _ _ _ c.push.ensures.items (ap is_ok c.in_ok-push.was) in
