@@ -5,7 +5,7 @@ use Rattle.std.specs.List.{AllByRecursion as All}
 use Rattle.std.proofs.ByRecursion.{All-append, All-push, All-map, All-weaker}
 use Rattle.std.proofs.lemmas.Bool.{and_parts, and_from, or_left, or_right, not_from_false, cond-true, cond_both, lt-ltb, ltb-true}
 use Rattle.refusals.specs.Refused.{Outcome, done, refused}
-use Rattle.elimination.specs.Moves.{Move, scale, pass, cross, put, below, for_each, formats_of, sweep, sweep_back, leaving, tracing}
+use Rattle.elimination.specs.Moves.{Move, scale, pass, cross, put, below, formats_of, sweep, sweep_back, leaving, tracing}
 use Rattle.elimination.specs.Networks.{Network, InForce}
 use Rattle.elimination.proofs.Schedules.{every, all-for_each, formats_fit}
 use Rattle.expressions.specs.declared.Record.{Record}

@@ -1,5 +1,5 @@
 -- Buffers that passed the checks are a sound store, whose plan names records in use. Assumes nothing.
-use Rattle.std.proofs.Common.{◌≡◌, ℕ, suc, ◌<◌, ◌≤◌, Bool, true, ◌&&◌, ltb, List, [], ◌∷◌, length, take, refl, arith}
+use Rattle.std.proofs.Common.{◌≡◌, ℕ, suc, ◌≤◌, Bool, true, ltb, List, [], ◌∷◌, length, take, refl, arith}
 use Rattle.std.proofs.lemmas.Bool.{and_parts, and_from, eqb-true, ltb-true}
 use Rattle.expressions.specs.declared.Record.{Record}
 use Rattle.expressions.specs.declared.Step.{Step}
@@ -7,7 +7,7 @@ use Rattle.expressions.specs.Contents.{Sound}
 use Rattle.expressions.specs.Layout.{each, well_formed, linked, record_sound}
 use Rattle.planning.specs.Components.{every}
 use Rattle.planning.proofs.Lowest.{decides_every}
-use Rattle.network.specs.Plans.{Planned, plan_sound}
+use Rattle.network.specs.Plans.{Planned}
 use Rattle.network.specs.States.{SealedCounts}
 use Rattle.engine.specs.Passing.{Undamaged}
 use Rattle.engine.specs.Rows.{NamesInUse}

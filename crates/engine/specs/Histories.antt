@@ -3,7 +3,7 @@
 -- said by the definitions that the contracts of the calls cite. Assumes nothing.
 use Rattle.std.specs.Prelude.{◌≡◌, ℕ, Bool, true, false, cond, List, [], ◌∷◌, ◌++◌, slice_set}
 use Rattle.refusals.specs.Refused.{Outcome, done, refused}
-use Rattle.elimination.specs.Networks.{Arc, Network, arc}
+use Rattle.elimination.specs.Networks.{Network, arc}
 use Rattle.expressions.specs.declared.Record.{Record}
 use Rattle.expressions.specs.declared.Step.{Step}
 use Rattle.network.specs.Drafts.{opened, added, turned}

@@ -8,9 +8,9 @@ use Rattle.expressions.specs.declared.Step.{Step}
 use Rattle.network.specs.declared.states.Sealed.{Sealed}
 use Rattle.network.specs.Drafts.{After, opened, added, turned}
 use Rattle.network.specs.Plans.{Planned}
-use Rattle.network.specs.Seals.{Settled, sealed_to, seals}
+use Rattle.network.specs.Seals.{sealed_to, seals}
 use Rattle.network.specs.States.{DraftCounts, drafted, sealed_counts}
-use Rattle.engine.specs.Histories.{World, History, begins, draws, is_done, turned_in, add, retire, seal}
+use Rattle.engine.specs.Histories.{History, begins, draws, is_done, turned_in, add, retire, seal}
 use Rattle.engine.specs.Promises.{sealed_world}
 use Rattle.worked.specs.Drawing.{Drawing, Draws, onward, taking, adding, retiring, drawing}
 

@@ -1,6 +1,6 @@
 -- The equations of the network with a loop, from those of any network. Assumes nothing.
-use Rattle.std.proofs.Common.{◌≡◌, ℕ, zero, suc, ◌<◌, true, List, [], ◌∷◌, get_or, sym, refl, ◌∙◌, arith}
-use Rattle.kleene.specs.Algebras.{Meaning, Kleene, Member, Below}
+use Rattle.std.proofs.Common.{◌≡◌, ℕ, zero, suc, ◌<◌, true, List, [], ◌∷◌, sym, refl, ◌∙◌, arith}
+use Rattle.kleene.specs.Algebras.{Meaning, Kleene, Member}
 use Rattle.elimination.specs.Equations.{Solution, Least, inflow}
 use Rattle.expressions.specs.Layout.{in_force}
 use Rattle.engine.specs.Querying.{weight_in}

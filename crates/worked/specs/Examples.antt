@@ -9,10 +9,10 @@ use Rattle.elimination.specs.Moves.{below}
 use Rattle.expressions.specs.declared.Record.{Record}
 use Rattle.expressions.specs.declared.Step.{Step}
 use Rattle.expressions.specs.Layout.{blank, nowhere}
-use Rattle.network.specs.Plans.{Planned, unplanned}
+use Rattle.network.specs.Plans.{unplanned}
 use Rattle.network.specs.Seals.{Settled, seals}
-use Rattle.network.specs.States.{SealedCounts, State, sealed, reopened}
-use Rattle.engine.specs.Querying.{QueryAfter, queries}
+use Rattle.network.specs.States.{SealedCounts, sealed, reopened}
+use Rattle.engine.specs.Querying.{queries}
 use Rattle.engine.specs.Tracking.{TraceAfter, traces}
 use Rattle.worked.specs.Drawing.{Drawing, drawing}
 

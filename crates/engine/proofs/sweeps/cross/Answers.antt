@@ -1,8 +1,8 @@
 -- The step is made, and then passed along. Assumes nothing.
-use Rattle.std.proofs.Common.{ℕ, ap, ◌∙◌}
-use Rattle.elimination.specs.Moves.{pass, put}
-use Rattle.expressions.specs.Contents.{Contents, contents}
-use Rattle.planning.specs.Running.{Ran, then_with, move_in}
+use Rattle.std.proofs.Common.{ℕ, ◌∙◌}
+use Rattle.elimination.specs.Moves.{pass}
+use Rattle.expressions.specs.Contents.{Contents}
+use Rattle.planning.specs.Running.{Ran, move_in}
 use Rattle.planning.specs.Tables.{row_of}
 use Rattle.planning.proofs.Runs.{grown-on, lent-on, made-on}
 use Rattle.engine.proofs.sweeps.cross.Goals as goal

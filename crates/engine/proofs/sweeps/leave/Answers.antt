@@ -1,5 +1,5 @@
 -- Each turn crosses the first of the steps that are left, if it leaves the component. Assumes nothing.
-use Rattle.std.proofs.Common.{◌≡◌, ℕ, ◌+◌, ◌<◌, true, false, ◌&&◌, ltb, List, [], ◌∷◌, length, get_or, drop, sym, refl, ap, ◌∙◌, arith}
+use Rattle.std.proofs.Common.{◌≡◌, ℕ, ◌+◌, ◌<◌, true, false, ◌&&◌, ltb, List, [], ◌∷◌, length, get_or, drop, sym, refl, ◌∙◌, arith}
 use Rattle.std.proofs.lemmas.List.{at_drop_more, at_drop_all}
 use Rattle.std.proofs.lemmas.Result.{err_from_is_err_and}
 use Rattle.std.proofs.lemmas.Bool.{and_parts, ltb-true}
@@ -7,7 +7,6 @@ use Rattle.elimination.specs.Moves.{cross}
 use Rattle.expressions.specs.declared.Step.{Step}
 use Rattle.expressions.proofs.Eaches.{each_at}
 use Rattle.network.specs.Plans.{planned}
-use Rattle.network.specs.Seals.{steps_sound}
 use Rattle.planning.proofs.Loads.{no_step, numbers, length_numbers}
 use Rattle.engine.specs.Rows.{leaves}
 use Rattle.engine.proofs.Leaving.{leaving_of, leaving-first, leaving_past}

@@ -1,8 +1,8 @@
 -- Each turn passes to one format more. Assumes nothing.
-use Rattle.std.proofs.Common.{◌≡◌, ℕ, ◌+◌, List, ◌∷◌, map, get_or, drop, refl, arith, rules}
+use Rattle.std.proofs.Common.{◌+◌, map, get_or, drop, arith, rules}
 use Rattle.std.proofs.lemmas.List.{at_drop_more, at_drop_all}
 use Rattle.std.proofs.lemmas.Result.{err_from_is_err_and}
-use Rattle.elimination.specs.Moves.{Move, pass}
+use Rattle.elimination.specs.Moves.{pass}
 use Rattle.network.specs.Plans.{planned}
 use Rattle.engine.proofs.Moved.{row_kept_on, one_on, none_left}
 use Rattle.engine.proofs.sweeps.pass_all.Goals as goal

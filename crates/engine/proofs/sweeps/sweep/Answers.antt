@@ -1,11 +1,11 @@
 -- Each turn scales the first of the formats that are left, and passes it to the later ones. Assumes nothing.
-use Rattle.std.proofs.Common.{◌≡◌, ℕ, ◌+◌, ◌-◌, ◌<◌, List, ◌∷◌, ◌++◌, map, length, get_or, take, drop, sym, refl, ap, ◌∙◌, subst, arith, rules}
+use Rattle.std.proofs.Common.{◌≡◌, ℕ, ◌+◌, ◌-◌, ◌<◌, List, ◌∷◌, map, length, get_or, take, drop, sym, ap, ◌∙◌, subst, arith, rules}
 use Rattle.std.proofs.lemmas.List.{at_drop_more, at_drop_all, take_rest, get_or-drop, length-drop}
 use Rattle.std.proofs.lemmas.Result.{err_from_is_err_and}
 use Rattle.elimination.specs.Moves.{Move, scale, pass, sweep}
 use Rattle.expressions.specs.Contents.{Contents, contents}
 use Rattle.network.specs.Plans.{planned}
-use Rattle.planning.specs.Running.{Ran, through, onward, move_in, run_moves}
+use Rattle.planning.specs.Running.{Ran, through, move_in, run_moves}
 use Rattle.planning.specs.Tables.{row_of}
 use Rattle.engine.specs.Rows.{Formats}
 use Rattle.engine.proofs.Moved.{row_kept_on, onward-on, some-on, none_left}

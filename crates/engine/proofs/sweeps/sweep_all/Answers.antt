@@ -1,5 +1,5 @@
 -- Each turn goes through the first of the components that are left. Assumes nothing.
-use Rattle.std.proofs.Common.{◌≡◌, ◌+◌, ◌<◌, drop, arith}
+use Rattle.std.proofs.Common.{◌+◌, ◌<◌, drop, arith}
 use Rattle.std.proofs.lemmas.List.{at_drop_all}
 use Rattle.std.proofs.lemmas.Result.{err_from_is_err_and}
 use Rattle.elimination.specs.Moves.{for_each, below, tracing}

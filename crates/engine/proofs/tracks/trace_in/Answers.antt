@@ -1,5 +1,5 @@
 -- The row begins with stay at the source, and the sweeps run all the moves. Assumes nothing.
-use Rattle.std.proofs.Common.{ℕ, ap, ◌∙◌}
+use Rattle.std.proofs.Common.{ap, ◌∙◌}
 use Rattle.std.proofs.lemmas.Result.{err_from_is_err_and}
 use Rattle.elimination.specs.Moves.{tracing}
 use Rattle.expressions.specs.Contents.{contents}
