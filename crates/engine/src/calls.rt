@@ -2,7 +2,6 @@
 ghost use Rattle.std.specs.Prelude.{◌≡◌, ◌≤◌, length, OnOk};
 ghost use Rattle.refusals.specs.Refused.{outcome};
 ghost use Rattle.network.specs.Plans.{planned};
-ghost use Rattle.network.specs.States.{sealed_counts};
 ghost use Rattle.engine.specs.Tracking.{TraceAfter, traces};
 ghost use Rattle.engine.specs.Promises.{sealed_world, RoutesInEveryHistory, InEveryHistory, RetiredUnseen};
 ghost use Rattle.engine.specs.Querying.{QueryAfter, queries};
@@ -24,8 +23,8 @@ pub fn trace(
     plan: &Plan,
     source: usize,
 ) -> Result<(), Refusal>
-    ensures after { record { answer = outcome (λ u. u) result; state = sealed_counts sealed.new; records = records.new; heads = heads.new; row = row.new } ≡ traces (sealed_counts sealed.old) steps.now records.old heads.old row.old (planned plan.now) source }
-    ensures routes { OnOk result (RoutesInEveryHistory (sealed_world (sealed_counts sealed.old) steps.now records.entry.now heads.old (planned plan.now)) source (record { records = records.exit.now; heads = heads.new; count = (sealed_counts sealed.new).records }) row.new) }
+    ensures after { record { answer = outcome (λ u. u) result; state = sealed.new; records = records.new; heads = heads.new; row = row.new } ≡ traces sealed.old steps.now records.old heads.old row.old (planned plan.now) source }
+    ensures routes { OnOk result (RoutesInEveryHistory (sealed_world sealed.old steps.now records.entry.now heads.old (planned plan.now)) source (record { records = records.exit.now; heads = heads.new; count = sealed.new.records }) row.new) }
 {
     long_enough(sealed, steps, records, heads, row)?;
     undamaged(sealed, steps, records, heads, plan)?;
@@ -58,9 +57,9 @@ pub fn query<A: Algebra>(
     plan: &Plan,
     source: usize,
 ) -> Result<(), Refusal>
-    ensures after { record { answer = outcome (λ u. u) result; state = sealed_counts sealed.new; records = records.new; heads = heads.new; row = row.new; memo = memo.new; answers = answers.new } ≡ queries (A.meaning algebra.now) (sealed_counts sealed.old) steps.now records.old heads.old row.old weights.now memo.old answers.old (planned plan.now) source }
-    ensures promises { OnOk result (InEveryHistory (A.meaning algebra.now) (sealed_world (sealed_counts sealed.old) steps.now records.entry.now heads.old (planned plan.now)) source weights.now (record { records = records.exit.now; heads = heads.new; count = (sealed_counts sealed.new).records }) row.new answers.new) }
-    ensures unseen { OnOk result (RetiredUnseen (A.meaning algebra.now) (sealed_counts sealed.old) steps.now records.old heads.old row.old weights.now memo.old answers.old (planned plan.now) source) }
+    ensures after { record { answer = outcome (λ u. u) result; state = sealed.new; records = records.new; heads = heads.new; row = row.new; memo = memo.new; answers = answers.new } ≡ queries (A.meaning algebra.now) sealed.old steps.now records.old heads.old row.old weights.now memo.old answers.old (planned plan.now) source }
+    ensures promises { OnOk result (InEveryHistory (A.meaning algebra.now) (sealed_world sealed.old steps.now records.entry.now heads.old (planned plan.now)) source weights.now (record { records = records.exit.now; heads = heads.new; count = sealed.new.records }) row.new answers.new) }
+    ensures unseen { OnOk result (RetiredUnseen (A.meaning algebra.now) sealed.old steps.now records.old heads.old row.old weights.now memo.old answers.old (planned plan.now) source) }
 {
     long_enough(sealed, steps, records, heads, row)?;
     long_too(

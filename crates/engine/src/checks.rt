@@ -2,7 +2,6 @@
 ghost use Rattle.std.specs.Prelude.{◌≡◌, ℕ, ◌<◌, ◌≤◌, length, take, OnOk};
 ghost use Rattle.refusals.specs.Refused.{outcome};
 ghost use Rattle.network.specs.Plans.{planned};
-ghost use Rattle.network.specs.States.{sealed_counts};
 ghost use Rattle.engine.specs.Checks.{long_enough, long_too, undamaged, known, weighed};
 ghost use Rattle.engine.specs.Passing.{Long, LongToo, Undamaged};
 ghost use Rattle.engine.specs.Querying.{member_in};
@@ -26,8 +25,10 @@ pub(crate) fn long_enough(
     heads: &[u32],
     row: &[u32],
 ) -> Result<(), Refusal>
-    ensures value { outcome (λ u. u) result ≡ long_enough (sealed_counts sealed.now) (length steps.now) (length records.now) (length heads.now) (length row.now) }
-    ensures passed { OnOk result (Long (sealed_counts sealed.now) (length steps.now) (length records.now) (length heads.now) (length row.now)) }
+    ensures value { outcome (λ u. u) result ≡ long_enough sealed.now (length steps.now) (length records.now) (length heads.now) (length row.now) }
+    ensures begun { 2 ≤ sealed.now.records }
+    ensures within { sealed.now.records ≤ 131072 }
+    ensures passed { OnOk result (Long sealed.now (length steps.now) (length records.now) (length heads.now) (length row.now)) }
 {
     let (_, count) = sealed.size();
     if steps.len() < sealed.step_count() {
@@ -52,8 +53,8 @@ pub(crate) fn long_too(
     memo: usize,
     answers: usize,
 ) -> Result<(), Refusal>
-    ensures value { outcome (λ u. u) result ≡ long_too (sealed_counts sealed.now) records weights memo answers }
-    ensures passed { OnOk result (LongToo (sealed_counts sealed.now) records weights memo answers) }
+    ensures value { outcome (λ u. u) result ≡ long_too sealed.now records weights memo answers }
+    ensures passed { OnOk result (LongToo sealed.now records weights memo answers) }
 {
     if weights < sealed.step_count() {
         Err(Refusal::TooShort(Buffer::Weights))
@@ -74,11 +75,11 @@ pub(crate) fn undamaged(
     heads: &[u32],
     plan: &Plan,
 ) -> Result<(), Refusal>
-    requires steps { (sealed_counts sealed.now).steps ≤ length steps.now }
-    requires records { (sealed_counts sealed.now).records ≤ length records.now }
+    requires steps { sealed.now.steps ≤ length steps.now }
+    requires records { sealed.now.records ≤ length records.now }
     requires heads { 1024 ≤ length heads.now }
-    ensures value { outcome (λ u. u) result ≡ undamaged (sealed_counts sealed.now) steps.now records.now heads.now (planned plan.now) }
-    ensures passed { OnOk result (Undamaged (sealed_counts sealed.now) (take (sealed_counts sealed.now).steps steps.now) records.now heads.now (planned plan.now)) }
+    ensures value { outcome (λ u. u) result ≡ undamaged sealed.now steps.now records.now heads.now (planned plan.now) }
+    ensures passed { OnOk result (Undamaged sealed.now (take sealed.now.steps steps.now) records.now heads.now (planned plan.now)) }
 {
     let (_, count) = sealed.size();
     let formats = sealed.formats();
@@ -98,8 +99,8 @@ pub(crate) fn undamaged(
 
 // Whether the source is a format.
 pub(crate) fn known(sealed: &Sealed, source: usize) -> Result<(), Refusal>
-    ensures value { outcome (λ u. u) result ≡ known (sealed_counts sealed.now) source }
-    ensures passed { OnOk result (source < (sealed_counts sealed.now).formats) }
+    ensures value { outcome (λ u. u) result ≡ known sealed.now source }
+    ensures passed { OnOk result (source < sealed.now.formats) }
 {
     if source < sealed.formats() {
         Ok(())

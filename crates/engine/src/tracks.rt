@@ -8,7 +8,6 @@ ghost use Rattle.expressions.specs.Layout.{each, well_formed};
 ghost use Rattle.expressions.specs.Meanings.{values, names_below};
 ghost use Rattle.network.specs.Plans.{planned};
 ghost use Rattle.network.specs.Seals.{steps_sound};
-ghost use Rattle.network.specs.States.{sealed_counts};
 ghost use Rattle.planning.specs.Drawn.{drawn};
 ghost use Rattle.planning.specs.Running.{Ran, run_moves};
 ghost use Rattle.planning.specs.Tables.{row_of};
@@ -47,13 +46,15 @@ fn track_in(
     steps: &[Step],
     source: usize,
 ) -> Result<Row, Refusal>
-    requires counted { store.old.count ≡ (sealed_counts sealed.old).records }
+    requires counted { store.old.count ≡ sealed.old.records }
+    requires begun { 2 ≤ sealed.old.records }
+    requires within { sealed.old.records ≤ 131072 }
     requires held { length steps.now < 2 ^ 32 }
-    requires records { (sealed_counts sealed.old).records ≤ length store.old.records.now }
+    requires records { sealed.old.records ≤ length store.old.records.now }
     requires heads { 1024 ≤ length store.old.heads.now }
-    requires undamaged { Undamaged (sealed_counts sealed.old) steps.now store.old.records.now store.old.heads.now (planned plan.now) }
-    requires source { source < (sealed_counts sealed.old).formats }
-    ensures tracked { record { answer = outcome row_of result; state = sealed_counts sealed.new; records = store.new.records.now; heads = store.new.heads.now } ≡ tracked_by (sealed_counts sealed.old) (ran_from (sealed_counts sealed.old) steps.now store.old.records.now store.old.heads.now (planned plan.now) source) }
+    requires undamaged { Undamaged sealed.old steps.now store.old.records.now store.old.heads.now (planned plan.now) }
+    requires source { source < sealed.old.formats }
+    ensures tracked { record { answer = outcome row_of result; state = sealed.new; records = store.new.records.now; heads = store.new.heads.now } ≡ tracked_by sealed.old (ran_from sealed.old steps.now store.old.records.now store.old.heads.now (planned plan.now) source) }
     ensures lent { Lent store.new store.old }
 {
     let traced = trace_in(store, plan, steps, source);
@@ -71,11 +72,11 @@ pub(crate) fn track(
     source: usize,
 ) -> Result<Row, Refusal>
     requires held { length steps.now < 2 ^ 32 }
-    requires records { (sealed_counts sealed.old).records ≤ length records.old }
+    requires records { sealed.old.records ≤ length records.old }
     requires heads { 1024 ≤ length heads.old }
-    requires undamaged { Undamaged (sealed_counts sealed.old) steps.now records.old heads.old (planned plan.now) }
-    requires source { source < (sealed_counts sealed.old).formats }
-    ensures { record { answer = outcome row_of result; state = sealed_counts sealed.new; records = records.new; heads = heads.new } ≡ tracked_by (sealed_counts sealed.old) (ran_from (sealed_counts sealed.old) steps.now records.old heads.old (planned plan.now) source) }
+    requires undamaged { Undamaged sealed.old steps.now records.old heads.old (planned plan.now) }
+    requires source { source < sealed.old.formats }
+    ensures { record { answer = outcome row_of result; state = sealed.new; records = records.new; heads = heads.new } ≡ tracked_by sealed.old (ran_from sealed.old steps.now records.old heads.old (planned plan.now) source) }
 {
     let (_, count) = sealed.size();
     let mut store = Store {

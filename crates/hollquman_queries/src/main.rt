@@ -2,9 +2,9 @@
 #![tactic(auto)]
 
 mod command;
+mod current;
 mod fault;
 mod listing;
-mod network;
 mod notation;
 mod rooms;
 mod session;

@@ -1,7 +1,7 @@
 // What a script has set so far, and what each command does and prints.
 use crate::command::{AlgebraName, Command, Weight};
+use crate::current::Network;
 use crate::fault::Fault;
-use crate::network::Network;
 use crate::rooms::Rooms;
 use crate::weights::Weights;
 use crate::{command, listing};

@@ -15,7 +15,7 @@ use Rattle.planning.specs.Orders.{in_order}
 use Rattle.planning.specs.Running.{Ran, through, stopped, run_acts}
 use Rattle.network.specs.declared.states.Draft.{Draft}
 use Rattle.network.specs.declared.states.Sealed.{Sealed}
-use Rattle.network.specs.States.{DraftCounts, draft_counts, sealed_counts, State, drafted, sealed}
+use Rattle.network.specs.States.{DraftCounts, State, drafted, sealed}
 use Rattle.network.specs.Plans.{Planned, InTurn}
 
 -- a step is damaged if one of its ends is no format
@@ -94,9 +94,9 @@ seals d steps records heads plan = seals_with d records heads plan (sealable d s
 
 -- what a call that seals has come to: its result, and the buffers at its exit
 abbrev pub sealed_to : Result Sealed (Draft × Refusal) → List Record → List ℕ → Planned → Settled
-sealed_to (Ok s) records heads plan = record { answer = done tt; state = sealed (sealed_counts s); records = records; heads = heads; plan = plan }
+sealed_to (Ok s) records heads plan = record { answer = done tt; state = sealed s; records = records; heads = heads; plan = plan }
 sealed_to (Err e) records heads plan =
-    record { answer = refused (listed e.1).0 (listed e.1).1; state = drafted (draft_counts e.0); records = records; heads = heads; plan = plan }
+    record { answer = refused (listed e.1).0 (listed e.1).1; state = drafted e.0; records = records; heads = heads; plan = plan }
 
 -- A plan is right for a network: its components are numbered as the rule of the lowest format lists them, and its order has
 -- their formats in turn.

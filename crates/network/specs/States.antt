@@ -1,7 +1,5 @@
 -- What the two states of a network hold. Assumes nothing.
 use Rattle.std.specs.Prelude.{ℕ, cond, ◌&&◌, nat_le}
-use Rattle.network.specs.declared.states.Draft.{Draft}
-use Rattle.network.specs.declared.states.Sealed.{Sealed}
 
 -- a draft counts its formats and the steps that were added
 pub record DraftCounts : Type 0 where
@@ -14,12 +12,6 @@ pub record SealedCounts : Type 0 where
   pub steps : ℕ
   pub components : ℕ
   pub records : ℕ
-
-abbrev pub draft_counts : Draft → DraftCounts
-draft_counts d = record { formats = d.formats; steps = d.steps }
-
-abbrev pub sealed_counts : Sealed → SealedCounts
-sealed_counts s = record { formats = s.formats; steps = s.steps; components = s.components; records = s.records }
 
 -- a network is a draft or sealed
 pub data State : Type 0 where

@@ -1,8 +1,8 @@
 // Drawing a network.
-ghost use Rattle.std.specs.Prelude.{◌≡◌, true, false};
+ghost use Rattle.std.specs.Prelude.{◌≡◌, ◌≤◌, true, false};
 ghost use Rattle.refusals.specs.Refused.{outcome};
 ghost use Rattle.network.specs.Drafts.{opened, After, added, turned};
-ghost use Rattle.network.specs.States.{draft_counts, sealed_counts, reopened, recounted};
+ghost use Rattle.network.specs.States.{recounted};
 
 use crate::{Draft, Sealed};
 use expressions::Step;
@@ -17,7 +17,7 @@ const MOST_RECORDS: usize = 131072;
 impl Draft {
     // A network of so many formats, 1 to 32, and no steps.
     pub fn open(formats: usize) -> Result<Draft, Refusal>
-        ensures { outcome draft_counts result ≡ opened formats }
+        ensures { outcome (λ d. d) result ≡ opened formats }
     {
         match formats {
             1..=32 => Ok(Draft {
@@ -30,7 +30,7 @@ impl Draft {
 
     // Adds a step in force from one format to another, or to the same, and answers its number.
     pub fn add(&mut self, steps: &mut [Step], from: usize, to: usize) -> Result<usize, Refusal>
-        ensures { record { answer = outcome (λ j. j) result; draft = draft_counts self.new; buffer = steps.new } ≡ added (draft_counts self.old) steps.old from to }
+        ensures { record { answer = outcome (λ j. j) result; draft = self.new; buffer = steps.new } ≡ added self.old steps.old from to }
     {
         let formats = self.formats as usize;
         let new = self.steps;
@@ -53,7 +53,7 @@ impl Draft {
 
     // Puts step j in force, or out of it.
     fn turn(&self, steps: &mut [Step], j: usize, on: bool) -> Result<(), Refusal>
-        ensures { record { answer = outcome (λ u. u) result; draft = draft_counts self.now; buffer = steps.new } ≡ turned on (draft_counts self.now) steps.old j }
+        ensures { record { answer = outcome (λ u. u) result; draft = self.now; buffer = steps.new } ≡ turned on self.now steps.old j }
     {
         if steps.len() < self.steps {
             Err(Refusal::TooShort(Buffer::Steps))
@@ -69,14 +69,14 @@ impl Draft {
 
     // Retires step j, which keeps its number.
     pub fn retire(&self, steps: &mut [Step], j: usize) -> Result<(), Refusal>
-        ensures { record { answer = outcome (λ u. u) result; draft = draft_counts self.now; buffer = steps.new } ≡ turned false (draft_counts self.now) steps.old j }
+        ensures { record { answer = outcome (λ u. u) result; draft = self.now; buffer = steps.new } ≡ turned false self.now steps.old j }
     {
         self.turn(steps, j, false)
     }
 
     // Puts step j in force again.
     pub fn restore(&self, steps: &mut [Step], j: usize) -> Result<(), Refusal>
-        ensures { record { answer = outcome (λ u. u) result; draft = draft_counts self.now; buffer = steps.new } ≡ turned true (draft_counts self.now) steps.old j }
+        ensures { record { answer = outcome (λ u. u) result; draft = self.now; buffer = steps.new } ≡ turned true self.now steps.old j }
     {
         self.turn(steps, j, true)
     }
@@ -85,21 +85,22 @@ impl Draft {
 impl Sealed {
     // How many formats there are.
     pub fn formats(&self) -> usize
-        ensures { result ≡ (sealed_counts self.now).formats }
+        ensures { result ≡ self.now.formats }
     {
         self.formats as usize
     }
 
     // How many steps were added, in force or retired.
     pub fn step_count(&self) -> usize
-        ensures { result ≡ (sealed_counts self.now).steps }
+        ensures value { result ≡ self.now.steps }
+        ensures held { self.now.steps ≤ 256 }
     {
         self.steps
     }
 
     // Counts the records that were made in the network's store, if so many can be in use there.
     pub fn count_records(&mut self, records: usize)
-        ensures { sealed_counts self.new ≡ recounted (sealed_counts self.old) records }
+        ensures { self.new ≡ recounted self.old records }
     {
         if 2 <= records && records <= MOST_RECORDS {
             self.records = records;
@@ -108,7 +109,7 @@ impl Sealed {
 
     // The draft that was sealed.
     pub fn reopen(self) -> Draft
-        ensures { draft_counts result ≡ reopened (sealed_counts self) }
+        ensures { result ≡ record { formats = self.formats; steps = self.steps } }
     {
         Draft {
             formats: self.formats,
@@ -118,7 +119,9 @@ impl Sealed {
 
     // The components, and the records.
     pub fn size(&self) -> (usize, usize)
-        ensures { result ≡ (self.now.components, self.now.records) }
+        ensures value { result ≡ (self.now.components, self.now.records) }
+        ensures begun { 2 ≤ self.now.records }
+        ensures within { self.now.records ≤ 131072 }
     {
         (self.components, self.records)
     }

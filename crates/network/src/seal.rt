@@ -3,7 +3,6 @@ ghost use Rattle.std.specs.Prelude.{◌≡◌, ℕ, ◌≤◌, true, length, tak
 ghost use Rattle.refusals.specs.Refused.{Outcome, outcome};
 ghost use Rattle.expressions.specs.Contents.{Lent};
 ghost use Rattle.planning.specs.Drawn.{drawn};
-ghost use Rattle.network.specs.States.{draft_counts};
 ghost use Rattle.network.specs.Plans.{planned};
 ghost use Rattle.network.specs.Seals.{steps_sound, sealable, Worked, worked_out, seals, sealed_to, PlannedFor};
 
@@ -91,7 +90,7 @@ impl Draft {
         records: &[Record],
         heads: &[u32],
     ) -> Result<&'a [Step], Refusal>
-        ensures value { outcome (λ x. x.now) result ≡ sealable (draft_counts self.now) steps.now records.now heads.now }
+        ensures value { outcome (λ x. x.now) result ≡ sealable self.now steps.now records.now heads.now }
         ensures taken { IfOk result (λ added. added.now ≡ take self.now.steps steps.now) }
     {
         if steps.len() < self.steps {
@@ -119,7 +118,7 @@ impl Draft {
         heads: &mut [u32],
         plan: &mut Plan,
     ) -> Result<Sealed, (Draft, Refusal)>
-        ensures settled { sealed_to result records.new heads.new (planned plan.new) ≡ seals (draft_counts self) steps.now records.old heads.old (planned plan.old) }
+        ensures settled { sealed_to result records.new heads.new (planned plan.new) ≡ seals self steps.now records.old heads.old (planned plan.old) }
         ensures planned { OnOk result (PlannedFor (drawn self.formats (take self.steps steps.now)) (planned plan.new)) }
     {
         let added = match self.checked(steps, records, heads) {

@@ -13,7 +13,7 @@ use Rattle.network.specs.declared.states.Draft.{Draft}
 use Rattle.network.specs.declared.states.Sealed.{Sealed}
 use Rattle.network.specs.Plans.{Planned, unplanned}
 use Rattle.network.specs.Seals.{Settled, seals, sealed_to}
-use Rattle.network.specs.States.{DraftCounts, SealedCounts, drafted, sealed, sealed_counts}
+use Rattle.network.specs.States.{DraftCounts, SealedCounts, drafted, sealed}
 use Rattle.engine.specs.Histories.{World, History}
 use Rattle.engine.specs.Promises.{InEveryHistory}
 use Rattle.engine.specs.Checks.{long_too}
@@ -74,7 +74,7 @@ module _ {V : Type 0} (m : Meaning V) (laws : Kleene m) where
   pub client_asked : {d : DraftCounts} {steps : List Step} {plan plan' : Planned} (s : Sealed) {records : List Record} {heads : List ℕ} (weights memo answers : List V) →
       plan ≡ unplanned → ◌≡◌ {A = Drawing} (done d, steps) (drawing_around (replicate 4 nowhere)) →
       sealed_to (Ok s) records heads plan' ≡ seals d steps (replicate 32 blank) (replicate 1024 0) plan →
-      (queries m (sealed_counts s) steps records heads (replicate 3 0) weights memo answers plan' 0).answer ≡ asked_around m weights memo answers
+      (queries m s steps records heads (replicate 3 0) weights memo answers plan' 0).answer ≡ asked_around m weights memo answers
   unfolding sealing
   client_asked {steps} s weights memo answers new drawn e =
       by_sealing (λ u records heads plan. (queries m u steps records heads (replicate 3 0) weights memo answers plan 0).answer) (e ∙ seals-around new drawn)

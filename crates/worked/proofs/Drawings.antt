@@ -9,7 +9,7 @@ use Rattle.network.specs.declared.states.Sealed.{Sealed}
 use Rattle.network.specs.Drafts.{After, opened, added, turned}
 use Rattle.network.specs.Plans.{Planned}
 use Rattle.network.specs.Seals.{sealed_to, seals}
-use Rattle.network.specs.States.{DraftCounts, drafted, sealed_counts}
+use Rattle.network.specs.States.{DraftCounts, drafted}
 use Rattle.engine.specs.Histories.{History, begins, draws, is_done, turned_in, add, retire, seal}
 use Rattle.engine.specs.Promises.{sealed_world}
 use Rattle.worked.specs.Drawing.{Drawing, Draws, onward, taking, adding, retiring, drawing}
@@ -59,7 +59,7 @@ then_retire {N} j h e records heads plan =
 -- the network was sealed
 pub then_seal : {d : DraftCounts} {steps : List Step} {N : Network} {records' : List Record} {heads' : List ℕ} {plan' : Planned} (s : Sealed)
     (records : List Record) (heads : List ℕ) (plan : Planned) → Draws d steps N →
-    sealed_to (Ok s) records' heads' plan' ≡ seals d steps records heads plan → History (sealed_world (sealed_counts s) steps records' heads' plan') N
+    sealed_to (Ok s) records' heads' plan' ≡ seals d steps records heads plan → History (sealed_world s steps records' heads' plan') N
 then_seal {steps} {N} s records heads plan h e =
     subst (λ a. History (record { state = a.state; steps = steps; records = a.records; heads = a.heads; plan = a.plan }) N) (sym e)
     (draws (h records heads plan) _ refl seal)

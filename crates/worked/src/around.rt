@@ -2,7 +2,6 @@
 // the answers rests on what querying promises in every history, and on no run.
 ghost use Rattle.std.specs.Prelude.{◌≡◌, IfOk, OnOk};
 ghost use Rattle.refusals.specs.Refused.{outcome};
-ghost use Rattle.network.specs.States.{draft_counts};
 ghost use Rattle.worked.specs.Drawing.{Drawing, Draws};
 ghost use Rattle.worked.specs.Around.{around, drawing_around, LeastAround, asked_around};
 
@@ -13,8 +12,8 @@ use refusals::Refusal;
 
 // Draws the network.
 fn draw(steps: &mut [Step]) -> Result<Draft, Refusal>
-    ensures value { ◌≡◌ {A = Drawing} (outcome draft_counts result, steps.new) (drawing_around steps.old) }
-    ensures history { IfOk result (λ draft. Draws (draft_counts draft) steps.new around) }
+    ensures value { ◌≡◌ {A = Drawing} (outcome (λ d. d) result, steps.new) (drawing_around steps.old) }
+    ensures history { IfOk result (λ draft. Draws draft steps.new around) }
 {
     let mut draft = Draft::open(3)?;
     draft.add(steps, 0, 1)?;

@@ -6,7 +6,6 @@ use Rattle.kleene.specs.Algebras.{everywhere}
 use Rattle.refusals.specs.Refused.{done}
 use Rattle.expressions.specs.Meanings.{values}
 use Rattle.network.specs.Plans.{planned}
-use Rattle.network.specs.States.{sealed_counts}
 use Rattle.planning.specs.Tables.{row_of}
 use Rattle.engine.specs.Checks.{weighed}
 use Rattle.engine.specs.Querying.{QueryAfter, weight_in, member_in, queried_by, queries}
@@ -19,12 +18,12 @@ use Rattle.engine.proofs.calls.query.Goals as goal
 pub weighed-requires : goal.weighed-requires
 weighed-requires g c =
     let long = length-take c.step_count.result c.args.steps.now in
-    omega (arith, c.in_ok-long_too.ensures.passed.for_weights, c.step_count.ensures)
+    omega (arith, c.in_ok-long_too.ensures.passed.for_weights, c.step_count.ensures.value)
 
 pub answer-requires : goal.answer-requires
 answer-requires g c =
     let sealed = c.args.sealed.now in
-    let s = sealed_counts sealed in
+    let s = sealed in
     let steps = c.args.steps.now in
     let records = c.args.records.now in
     let heads = c.args.heads.now in
@@ -32,12 +31,12 @@ answer-requires g c =
     let weights = c.args.weights.now in
     let long = c.in_ok-long_enough.ensures.passed in
     let too = c.in_ok-long_too.ensures.passed in
-    let taken = ap (λ k. take k steps) c.step_count.ensures in
+    let taken = ap (λ k. take k steps) c.step_count.ensures.value in
     let tracks = c.in_ok-traced.ensures ∙ ap (λ added. tracked_by s (ran_from s added records heads plan c.args.source)) taken in
     let added = length-take s.steps steps in
     let (reads, same) =
-    tracked_reads c.in_ok-undamaged.ensures.passed sealed.begun sealed.within long.for_records long.for_heads c.args.source (length weights) (omega arith) tracks in
-    let counted = sym (ap (λ p. p.1) c.size-count.ensures) in
+    tracked_reads c.in_ok-undamaged.ensures.passed c.in_ok-long_enough.ensures.begun c.in_ok-long_enough.ensures.within long.for_records long.for_heads c.args.source (length weights) (omega arith) tracks in
+    let counted = sym (ap (λ p. p.1) c.size-count.ensures.value) in
     let now = subst (λ count. Reads (take s.steps steps) c.track.new.records count (length weights) (row_of c.in_ok-traced.traced)) counted reads in
     record {
       within = omega (arith, now.room);
@@ -52,7 +51,7 @@ pub returns : goal.returns
 returns g c =
     let m = g.A.Algebra.meaning c.args.algebra.now in
     let sealed = c.args.sealed.now in
-    let s = sealed_counts sealed in
+    let s = sealed in
     let steps = c.args.steps.now in
     let records = c.args.records.now in
     let heads = c.args.heads.now in
@@ -65,12 +64,12 @@ returns g c =
     let long = c.in_ok-long_enough.ensures in
     let too = c.in_ok-long_too.ensures in
     let undamaged = c.in_ok-undamaged.ensures in
-    let taken = ap (λ k. take k steps) c.step_count.ensures in
+    let taken = ap (λ k. take k steps) c.step_count.ensures.value in
     let tracks = c.in_ok-traced.ensures ∙ ap (λ added. tracked_by s (ran_from s added records heads plan source)) taken in
     let added = length-take s.steps steps in
     let held : length (take s.steps steps) ≤ length weights = omega (arith, too.passed.for_weights) in
-    let (reads, same) = tracked_reads undamaged.passed sealed.begun sealed.within long.passed.for_records long.passed.for_heads source (length weights) held tracks in
-    let counted = ap (λ p. p.1) c.size-count.ensures in
+    let (reads, same) = tracked_reads undamaged.passed c.in_ok-long_enough.ensures.begun c.in_ok-long_enough.ensures.within long.passed.for_records long.passed.for_heads source (length weights) held tracks in
+    let counted = ap (λ p. p.1) c.size-count.ensures.value in
     let found = row_of c.in_ok-traced.traced in
     let records' = c.track.new.records in
     let written = c.write_row.ensures ∙ ap (λ n. filled found n row) c.formats-formats.ensures in
@@ -79,7 +78,7 @@ returns g c =
     let e : ◌≡◌ {A = QueryAfter g.row.A-Value.Denot}
     (record {
       answer = done tt;
-      state = sealed_counts c.track.new.sealed;
+      state = c.track.new.sealed;
       records = records';
       heads = c.track.new.heads;
       row = c.write_row.new.row;
@@ -92,7 +91,7 @@ returns g c =
     record {
       after = e;
       promises = query_promises m s steps records heads row weights memo answers plan source (g.met.A.Algebra.kleene c.args.algebra.now) refl e;
-      unseen = retired_unseen m s steps records heads row weights memo answers plan source sealed.begun sealed.within;
+      unseen = retired_unseen m s steps records heads row weights memo answers plan source c.in_ok-long_enough.ensures.begun c.in_ok-long_enough.ensures.within;
     }
 
 -- the store was full
@@ -100,12 +99,12 @@ pub returns-in_err-traced-clause-after : goal.returns-in_err-traced-clause-after
 returns-in_err-traced-clause-after g c =
     let q = err_from_is_err_and c.from_residual-in_err-traced.result c.from_residual-in_err-traced.ensures.1 in
     let m = g.A.Algebra.meaning c.args.algebra.now in
-    let s = sealed_counts c.args.sealed.now in
+    let s = c.args.sealed.now in
     let steps = c.args.steps.now in
     let row = c.args.row.now in
     let weights = c.args.weights.now in
     let memo = c.args.memo.now in
     let answers = c.args.answers.now in
     rw (q.1, q.2) (ap (queried_by m s row weights memo answers) (query_tracked m s steps c.args.records.now c.args.heads.now row weights memo answers (planned c.args.plan.now) c.args.source
-    (take c.step_count.result steps) (ap (λ k. take k steps) c.step_count.ensures) c.in_ok-long_enough.ensures.value c.in_ok-long_too.ensures.value c.in_ok-undamaged.ensures.value
+    (take c.step_count.result steps) (ap (λ k. take k steps) c.step_count.ensures.value) c.in_ok-long_enough.ensures.value c.in_ok-long_too.ensures.value c.in_ok-undamaged.ensures.value
     c.in_ok-known.ensures.value c.in_ok-weighed.ensures c.in_err-traced.ensures))

@@ -3,7 +3,6 @@ use Rattle.std.proofs.Common.{◌≡◌, take, refl, ap, ◌∙◌}
 use Rattle.std.proofs.lemmas.Result.{err_from_is_err_and}
 use Rattle.refusals.specs.Refused.{done}
 use Rattle.network.specs.Plans.{planned}
-use Rattle.network.specs.States.{sealed_counts}
 use Rattle.planning.specs.Tables.{row_of}
 use Rattle.engine.specs.Tracking.{TraceAfter, filled, traced_by, traces}
 use Rattle.engine.proofs.Ended.{trace_tracked, trace_ended, trace-routes}
@@ -11,7 +10,7 @@ use Rattle.engine.proofs.calls.trace.Goals as goal
 
 pub returns : goal.returns
 returns c =
-    let s = sealed_counts c.args.sealed.now in
+    let s = c.args.sealed.now in
     let steps = c.args.steps.now in
     let records = c.args.records.now in
     let heads = c.args.heads.now in
@@ -19,8 +18,8 @@ returns c =
     let plan = planned c.args.plan.now in
     let source = c.args.source in
     let found = row_of c.in_ok-traced.traced in
-    let e : ◌≡◌ {A = TraceAfter} (record { answer = done tt; state = sealed_counts c.track.new.sealed; records = c.track.new.records; heads = c.track.new.heads; row = c.write_row.new.row }) (traces s steps records heads row plan source) =
-    trace_ended s steps records heads row plan source {found = found} (take c.step_count.result steps) (ap (λ k. take k steps) c.step_count.ensures)
+    let e : ◌≡◌ {A = TraceAfter} (record { answer = done tt; state = c.track.new.sealed; records = c.track.new.records; heads = c.track.new.heads; row = c.write_row.new.row }) (traces s steps records heads row plan source) =
+    trace_ended s steps records heads row plan source {found = found} (take c.step_count.result steps) (ap (λ k. take k steps) c.step_count.ensures.value)
     (c.write_row.ensures ∙ ap (λ n. filled found n row) c.formats-formats.ensures)
     c.in_ok-long_enough.ensures.value c.in_ok-undamaged.ensures.value c.in_ok-known.ensures.value c.in_ok-traced.ensures in
     record { after = e; routes = trace-routes s steps records heads row plan source refl e }
@@ -29,8 +28,8 @@ returns c =
 pub returns-in_err-traced-clause-after : goal.returns-in_err-traced-clause-after
 returns-in_err-traced-clause-after c =
     let q = err_from_is_err_and c.from_residual-in_err-traced.result c.from_residual-in_err-traced.ensures.1 in
-    let s = sealed_counts c.args.sealed.now in
+    let s = c.args.sealed.now in
     let steps = c.args.steps.now in
     let row = c.args.row.now in
     rw (q.1, q.2) (ap (traced_by s row) (trace_tracked s steps c.args.records.now c.args.heads.now row (planned c.args.plan.now) c.args.source (take c.step_count.result steps)
-    (ap (λ k. take k steps) c.step_count.ensures) c.in_ok-long_enough.ensures.value c.in_ok-undamaged.ensures.value c.in_ok-known.ensures.value c.in_err-traced.ensures))
+    (ap (λ k. take k steps) c.step_count.ensures.value) c.in_ok-long_enough.ensures.value c.in_ok-undamaged.ensures.value c.in_ok-known.ensures.value c.in_err-traced.ensures))

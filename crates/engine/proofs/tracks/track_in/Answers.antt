@@ -9,7 +9,7 @@ use Rattle.expressions.specs.declared.Step.{Step}
 use Rattle.expressions.specs.Contents.{Contents, contents, Sound}
 use Rattle.network.specs.Plans.{Planned, planned}
 use Rattle.network.specs.Seals.{steps_sound}
-use Rattle.network.specs.States.{SealedCounts, sealed_counts, counting, recounted}
+use Rattle.network.specs.States.{SealedCounts, counting, recounted}
 use Rattle.planning.specs.declared.rows.Row.{Row}
 use Rattle.planning.specs.Drawn.{drawn}
 use Rattle.planning.specs.Running.{run_moves}
@@ -43,7 +43,7 @@ trace_in-traced-requires c =
     let same = plan-formats u in
     let s = c.args.store.now in
     record {
-      sound = subst (λ k. Sound (record { records = s.records.now; heads = s.heads.now; count = k })) (sym c.requires.counted) (undamaged-sound u sealed.begun sealed.within c.requires.records c.requires.heads);
+      sound = subst (λ k. Sound (record { records = s.records.now; heads = s.heads.now; count = k })) (sym c.requires.counted) (undamaged-sound u c.requires.begun c.requires.within c.requires.records c.requires.heads);
       named = subst (NamesInUse (planned c.args.plan.now)) (sym c.requires.counted) (names_in_use u);
       held = c.requires.held;
       joined = subst (λ n. steps_sound n c.args.steps.now ≡ true) (sym same) u.joined;
@@ -52,7 +52,7 @@ trace_in-traced-requires c =
 
 pub returns : goal.returns
 returns c =
-    let s = sealed_counts c.args.sealed.now in
+    let s = c.args.sealed.now in
     let plan = planned c.args.plan.now in
     let e = c.trace_in-traced.ensures in
     let after = contents c.trace_in-traced.new.store in
