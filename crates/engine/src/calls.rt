@@ -24,7 +24,7 @@ pub fn trace(
     source: usize,
 ) -> Result<(), Refusal>
     ensures after { record { answer = outcome (λ u. u) result; state = sealed.new; records = records.new; heads = heads.new; row = row.new } ≡ traces sealed.old steps.now records.old heads.old row.old (planned plan.now) source }
-    ensures routes { OnOk result (RoutesInEveryHistory (sealed_world sealed.old steps.now records.entry.now heads.old (planned plan.now)) source (record { records = records.exit.now; heads = heads.new; count = sealed.new.records }) row.new) }
+    ensures routes { OnOk result (RoutesInEveryHistory (sealed_world sealed.old steps.now records.old heads.old (planned plan.now)) source (record { records = records.new; heads = heads.new; count = sealed.new.records }) row.new) }
 {
     long_enough(sealed, steps, records, heads, row)?;
     undamaged(sealed, steps, records, heads, plan)?;
@@ -58,7 +58,7 @@ pub fn query<A: Algebra>(
     source: usize,
 ) -> Result<(), Refusal>
     ensures after { record { answer = outcome (λ u. u) result; state = sealed.new; records = records.new; heads = heads.new; row = row.new; memo = memo.new; answers = answers.new } ≡ queries (A.meaning algebra.now) sealed.old steps.now records.old heads.old row.old weights.now memo.old answers.old (planned plan.now) source }
-    ensures promises { OnOk result (InEveryHistory (A.meaning algebra.now) (sealed_world sealed.old steps.now records.entry.now heads.old (planned plan.now)) source weights.now (record { records = records.exit.now; heads = heads.new; count = sealed.new.records }) row.new answers.new) }
+    ensures promises { OnOk result (InEveryHistory (A.meaning algebra.now) (sealed_world sealed.old steps.now records.old heads.old (planned plan.now)) source weights.now (record { records = records.new; heads = heads.new; count = sealed.new.records }) row.new answers.new) }
     ensures unseen { OnOk result (RetiredUnseen (A.meaning algebra.now) sealed.old steps.now records.old heads.old row.old weights.now memo.old answers.old (planned plan.now) source) }
 {
     long_enough(sealed, steps, records, heads, row)?;
