@@ -1,5 +1,5 @@
 -- A draft whose plan was worked out is sealed, and else it is given back. Assumes nothing.
-use Rattle.std.proofs.Common.{◌≡◌, List, take, ap, ◌∙◌, subst}
+use Rattle.std.proofs.Common.{take, ap, ◌∙◌, subst}
 use Rattle.planning.specs.Drawn.{drawn}
 use Rattle.network.specs.Plans.{planned}
 use Rattle.network.specs.Seals.{worked_out, settled, seals_with, PlannedFor}
