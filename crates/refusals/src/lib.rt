@@ -8,18 +8,19 @@ ghost use Rattle.std.specs.Prelude.{◌≡◌};
 ghost use Rattle.refusals.specs.Refused.{listed, buffer_number};
 
 use std::fmt;
+use thiserror::Error;
 
 // A buffer that a caller lends to the engine.
 #[derive(Clone, Copy, PartialEq, Eq, Debug)]
 pub enum Buffer {
-    Steps,
-    Records,
-    Heads,
-    Row,
-    Weights,
-    Memo,
-    Answers,
-    Plan,
+    Steps = 1,
+    Records = 2,
+    Heads = 3,
+    Row = 4,
+    Weights = 5,
+    Memo = 6,
+    Answers = 7,
+    Plan = 8,
 }
 
 impl Buffer {
@@ -27,45 +28,42 @@ impl Buffer {
     pub fn number(self) -> usize
         ensures { result ≡ buffer_number self }
     {
-        match self {
-            Buffer::Steps => 1,
-            Buffer::Records => 2,
-            Buffer::Heads => 3,
-            Buffer::Row => 4,
-            Buffer::Weights => 5,
-            Buffer::Memo => 6,
-            Buffer::Answers => 7,
-            Buffer::Plan => 8,
-        }
+        self as usize
     }
 }
 
-#[derive(Clone, Copy, PartialEq, Eq, Debug)]
+#[derive(Clone, Copy, PartialEq, Eq, Debug, Error)]
 pub enum Refusal {
-    // A network has 1 to 32 formats.
+    #[error("a network has 1 to 32 formats")]
     FormatCount,
     // A format's number is not below the number of formats.
+    #[error("there is no format of that number, they count from 0")]
     NoSuchFormat,
     // A network has 256 steps, or as many as the step buffer holds.
+    #[error("there is no room for another step, a network has at most 256")]
     StepsFull,
-    // No step has that number.
+    #[error("there is no step of that number, they count from 0 as added")]
     NoSuchStep,
     // The step is retired already, or in force already.
+    #[error("retire takes a step in force, restore a retired one")]
     AlreadySo,
-    // A lent buffer is too short.
+    #[error("the buffer of {0} is too short, lend a longer one")]
     TooShort(Buffer),
-    // A lent buffer is damaged.
+    #[error("the buffer of {0} is damaged, lend the one that holds this network")]
     Damaged(Buffer),
     // The weight of this step, which is in force, is no member of the algebra.
+    #[error("the weight of step {0} is no member of the algebra")]
     NotAMember(usize),
     // A new record would pass this count of records that the store may use.
+    #[error("the store is full at {0} records, lend more of them")]
     StoreFull(usize),
     // A modulus lies outside 1 to 60.
+    #[error("a modulus is a number from 1 to 60")]
     ModulusRange,
 }
 
 impl Refusal {
-    // The number of the refusal, 1 to 10.
+    // The number of the refusal, 1 to 10. A match, since `as` takes only an enum whose variants have no fields.
     pub fn number(self) -> usize
         ensures { result ≡ (listed self).0 }
     {
@@ -97,6 +95,7 @@ impl Refusal {
     }
 }
 
+// Written out, since no derive prints a variant in lower case.
 impl fmt::Display for Buffer {
     fn fmt<W: fmt::Write>(&self, f: &mut fmt::Formatter<W>) -> fmt::Result {
         f.write_str(match *self {
@@ -109,43 +108,5 @@ impl fmt::Display for Buffer {
             Buffer::Answers => "answers",
             Buffer::Plan => "plan",
         })
-    }
-}
-
-// The reason in words, for a person.
-impl fmt::Display for Refusal {
-    fn fmt<W: fmt::Write>(&self, f: &mut fmt::Formatter<W>) -> fmt::Result {
-        match *self {
-            Refusal::FormatCount => f.write_str("a network has 1 to 32 formats"),
-            Refusal::NoSuchFormat => f.write_str(
-                "there is no format of that number, they count from 0",
-            ),
-            Refusal::StepsFull => f.write_str(
-                "there is no room for another step, a network has at most 256",
-            ),
-            Refusal::NoSuchStep => f.write_str(
-                "there is no step of that number, they count from 0 as added",
-            ),
-            Refusal::AlreadySo => f.write_str(
-                "retire takes a step in force, restore a retired one",
-            ),
-            Refusal::TooShort(buffer) => write!(
-                f,
-                "the buffer of {buffer} is too short, lend a longer one"
-            ),
-            Refusal::Damaged(buffer) => write!(
-                f,
-                "the buffer of {buffer} is damaged, lend the one that holds this network"
-            ),
-            Refusal::NotAMember(step) => write!(
-                f,
-                "the weight of step {step} is no member of the algebra"
-            ),
-            Refusal::StoreFull(count) => write!(
-                f,
-                "the store is full at {count} records, lend more of them"
-            ),
-            Refusal::ModulusRange => f.write_str("a modulus is a number from 1 to 60"),
-        }
     }
 }
