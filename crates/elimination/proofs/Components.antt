@@ -4,7 +4,7 @@ use mathlib.Core.Path.{fun_ext}
 use Rattle.std.proofs.lemmas.Bool.{cases_eq, cond_both}
 use Rattle.std.proofs.lemmas.Bool.Decides.{nat_tests}
 use Rattle.kleene.specs.Algebras.{Operations}
-use Rattle.kleene.proofs.Chains.{folded_append}
+use Rattle.std.proofs.lemmas.List.Sums.{fold-append}
 use Rattle.elimination.specs.Moves.{Act, scale, pass, at, close, move, act, put, for_each, eliminate, sweep, sweep_back}
 use Rattle.elimination.proofs.Semirings.{StarSemiring}
 use Rattle.elimination.proofs.Lists.{has, Distinct, has_push, distinct_push}
@@ -12,7 +12,7 @@ use Rattle.elimination.proofs.Sums.{total, total_same, total_sum, total_product,
 
 regrouped : {X Y : Type 0} (f : Y → X → Y) (y : Y) (a b c d : List X) →
     fold f y ((a ++ b) ++ (c ++ d)) ≡ fold f (fold f (fold f y a) (b ++ c)) d
-regrouped f y a b c d = simp folded_append
+regrouped f y a b c d = simp fold-append
 
 -- the acts that free row u from v
 abbrev free : ℕ → List ℕ → ℕ → List Act
@@ -61,13 +61,13 @@ module _ {S : Type 0} (o : Operations S) where
     rows_freed v later d (u ∷ us) P e apart x y =
         let row = row_passed v u later (act o step P (at u (scale v))) d.1 d.0 (grind (arith, nat_tests)) in
         let rest = rows_freed v later d us (fold (act o step) P (free v later u)) e.1 (grind (arith, nat_tests)) x y in
-        ap (λ T. T x y) (folded_append (act o step) P (free v later u) (for_each (free v later) us)) ∙ rest ∙ grind (arith, nat_tests, row)
+        ap (λ T. T x y) (fold-append (act o step) P (free v later u) (for_each (free v later) us)) ∙ rest ∙ grind (arith, nat_tests, row)
 
     -- elimination of a list begins with its first
     eliminated : (v : ℕ) (later : List ℕ) (T : ℕ → ℕ → S) → Distinct (v ∷ later) →
         fold (act o step) T (eliminate (v ∷ later)) ≡ fold (act o step) (without v later T) (eliminate later)
     eliminated v later T d =
-        folded_append (act o step) T (drop v later) (eliminate later)
+        fold-append (act o step) T (drop v later) (eliminate later)
         ∙ ap (λ P. fold (act o step) P (eliminate later))
         (fun_ext (λ x. fun_ext (λ y. rows_freed v later d later (act o step T (close v)) d.1 d.0 x y)))
 

@@ -2,7 +2,7 @@
 use Rattle.std.proofs.Common.{◌≡◌, ℕ, zero, suc, Bool, true, false, ◌&&◌, ◌||◌, eqb, ltb, List, [], ◌∷◌, ◌++◌, length, fold, sym, refl, ap, ◌∙◌, arith}
 use Rattle.std.proofs.lemmas.Bool.{cond_both}
 use Rattle.std.proofs.lemmas.Bool.Decides.{nat_tests}
-use Rattle.kleene.proofs.Chains.{folded_append}
+use Rattle.std.proofs.lemmas.List.Sums.{fold-append}
 use Rattle.elimination.specs.Networks.{Network, arc, InForce}
 use Rattle.elimination.specs.Moves.{keep, below, for_each, formats_of, steps_in_force}
 
@@ -60,8 +60,8 @@ module _ (N : Network) (component : ℕ → ℕ) where
 -- the moves of one number more run last
 module _ {X Y : Type 0} (run : Y → X → Y) (f : ℕ → List X) where
   pub for_push : (y : Y) (vs : List ℕ) (v : ℕ) → fold run y (for_each f (vs ++ v ∷ [])) ≡ fold run (fold run y (for_each f vs)) (f v)
-  for_push y [] v = folded_append run y (f v) []
+  for_push y [] v = fold-append run y (f v) []
   for_push y (w ∷ vs) v =
-      folded_append run y (f w) (for_each f (vs ++ v ∷ []))
+      fold-append run y (f w) (for_each f (vs ++ v ∷ []))
       ∙ for_push (fold run y (f w)) vs v
-      ∙ ap (λ z. fold run z (f v)) (sym (folded_append run y (f w) (for_each f vs)))
+      ∙ ap (λ z. fold run z (f v)) (sym (fold-append run y (f w) (for_each f vs)))

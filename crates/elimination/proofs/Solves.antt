@@ -3,7 +3,7 @@ use Rattle.std.proofs.Common.{◌≡◌, ℕ, zero, suc, ◌<◌, ◌≤◌, Boo
 use Rattle.std.proofs.lemmas.Bool.{cases_eq, cond_both}
 use Rattle.std.proofs.lemmas.Bool.Decides.{nat_tests}
 use Rattle.kleene.specs.Algebras.{Operations}
-use Rattle.kleene.proofs.Chains.{folded_append}
+use Rattle.std.proofs.lemmas.List.Sums.{fold-append}
 use Rattle.elimination.specs.Networks.{Network, arc, InForce, Joined, Ordered}
 use Rattle.elimination.specs.Equations.{when, start, inflow}
 use Rattle.elimination.specs.Moves.{Act, Move, load, cross, move, act, for_each, keep, below, formats_of, steps_in_force, loads, leaving, eliminate, sweep, sweep_back, sealing, tracing, no_table, sealed, first_row, traced}
@@ -196,7 +196,7 @@ module _ (N : Network) (component : ℕ → ℕ) where
           row_more : (k : ℕ) → row (suc k) ≡ left k (row k)
           row_more k =
               for_push (move o step (sealed_to count)) tracing_of (first_row o step s) (below k) k
-              ∙ folded_append (move o step (sealed_to count)) (row k) (sweep (formats k) ++ sweep_back [] (formats k)) (leaving N component k)
+              ∙ fold-append (move o step (sealed_to count)) (row k) (sweep (formats k) ++ sweep_back [] (formats k)) (leaving N component k)
 
           -- a step from a component traced brings the same ever after
           by_step : (k : ℕ) → k < count → (t j : ℕ) → has steps j ≡ true →
@@ -239,7 +239,7 @@ module _ (N : Network) (component : ℕ → ℕ) where
     unfolding traced sealed sealing tracing
     traced_is count s =
         ap (λ P. fold (move o step P) (first_row o step s) (for_each tracing_of (below count)))
-        (folded_append (act o step) (no_table o step) (loads N component) (for_each (λ c. eliminate (formats c)) (below count)))
+        (fold-append (act o step) (no_table o step) (loads N component) (for_each (λ c. eliminate (formats c)) (below count)))
 
 -- the row that the moves give solves the network's equations
 pub solves : {S : Type 0} (o : Operations S) (Proper : S → Type 0) → StarSemiring o Proper →

@@ -1,12 +1,9 @@
 -- Joining two chains multiplies what they come to. Assumes nothing.
-use Rattle.std.proofs.Common.{◌≡◌, List, [], ◌∷◌, ◌++◌, fold, sym, refl, ap, ◌∙◌}
+use Rattle.std.proofs.Common.{◌≡◌, List, [], ◌∷◌, fold, sym, refl, ap, ◌∙◌}
+use Rattle.std.proofs.lemmas.List.Sums.{fold-append}
 use Rattle.kleene.specs.Algebras.{Meaning, Kleene, Member, everywhere}
 use Rattle.kleene.specs.Chains.{comes_to, Joins}
 use Rattle.kleene.proofs.Everywhere.{product-member, product_assoc, product-one}
-
-pub folded_append : {X Y : Type 0} (f : Y → X → Y) (y : Y) (front back : List X) → fold f y (front ++ back) ≡ fold f (fold f y front) back
-folded_append f y [] back = refl
-folded_append f y (x ∷ front) back = folded_append f (f y x) front back
 
 module _ {V : Type 0} (m : Meaning V) (laws : Kleene m) where
   open everywhere m use {one, product as ◌⊙◌}
@@ -24,6 +21,6 @@ module _ {V : Type 0} (m : Meaning V) (laws : Kleene m) where
   joins ws front back e =
       let first = fold ◌⊙◌ one front in
       ap (comes_to (everywhere m)) (sym e)
-      ∙ folded_append ◌⊙◌ one front back
+      ∙ fold-append ◌⊙◌ one front back
       ∙ ap (λ x. fold ◌⊙◌ x back) (sym (product-one m laws first (folded_member one front laws.one-member)))
       ∙ folded_from first one back

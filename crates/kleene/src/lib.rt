@@ -2,7 +2,7 @@
 #![tactic(auto)]
 
 ghost use Rattle.std.specs.Prelude.{◌≡◌};
-ghost use Rattle.kleene.specs.Algebras.{Meaning, Kleene, everywhere};
+ghost use Rattle.kleene.specs.Algebras.{Meaning, Kleene, taken, everywhere};
 ghost use Rattle.kleene.specs.Chains.{comes_to, Joins};
 
 // A Kleene algebra. An implementation is a value, so that it can hold a parameter such as a modulus.
@@ -32,6 +32,13 @@ pub trait Algebra {
     fn star(&self, a: Self::Value) -> Self::Value
         ensures { result ≡ (everywhere (meaning self.now)).star a };
 
+    // The operand that this value counts as: zero where it is no member.
+    fn operand(&self, a: Self::Value) -> Self::Value
+        ensures { result ≡ taken (meaning self.now) a }
+    {
+        if self.is_member(a) { a } else { self.zero() }
+    }
+
     ghost kleene: { (s : Self) → Kleene (meaning s) };
 }
 
@@ -41,9 +48,7 @@ pub fn chain<A: Algebra>(algebra: &A, weights: &[A::Value]) -> A::Value
     ensures value { result ≡ comes_to (everywhere (A.meaning algebra.now)) weights.now }
     ensures joins { Joins (everywhere (A.meaning algebra.now)) weights.now result }
 {
-    let mut so_far = algebra.one();
-    for w in weights {
-        so_far = algebra.product(so_far, *w);
-    }
-    so_far
+    weights
+        .iter()
+        .fold(algebra.one(), |so_far, w| algebra.product(so_far, *w))
 }
