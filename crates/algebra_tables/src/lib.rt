@@ -6,8 +6,19 @@
 mod tests {
     use algebras::{Cost, Depth, Marking, Marks, Phase, Reach};
     use kleene::Algebra;
-    use refusals::Refusal;
+    use std::fmt::Debug;
+    use std::process::Abort;
     use std::test::Fail;
+
+    // A row of a, b, a + b, a·b.
+    fn check_row<V: Copy + PartialEq + Debug, A: Algebra<Value = V>>(
+        rt: &impl Abort,
+        algebra: &A,
+        (a, b, sum, product): (V, V, V, V),
+    ) {
+        assert_eq!(rt; algebra.sum(a, b), sum);
+        assert_eq!(rt; algebra.product(a, b), product);
+    }
 
     // a, b, a + b, a·b
     #[test]
@@ -18,10 +29,9 @@ mod tests {
             (true, false, true, false),
             (true, true, true, true),
         ];
-        for (a, b, sum, product) in rows {
-            assert_eq!(rt; Reach.sum(a, b), sum);
-            assert_eq!(rt; Reach.product(a, b), product);
-            assert!(rt; Reach.is_member(a) && Reach.star(a));
+        for row in rows {
+            check_row(&rt, &Reach, row);
+            assert!(rt; Reach.is_member(row.0) && Reach.star(row.0));
         }
         assert_eq!(rt; (Reach.zero(), Reach.one()), (false, true));
     }
@@ -43,11 +53,10 @@ mod tests {
             (4294967288, 7, 7, 4294967295),
             (1, 4294967294, 1, 4294967295),
         ];
-        for (a, b, sum, product) in rows {
-            assert_eq!(rt; Cost.sum(a, b), sum);
-            assert_eq!(rt; Cost.product(a, b), product);
-            assert_eq!(rt; Cost.star(a), 0);
-            assert!(rt; Cost.is_member(a));
+        for row in rows {
+            check_row(&rt, &Cost, row);
+            assert_eq!(rt; Cost.star(row.0), 0);
+            assert!(rt; Cost.is_member(row.0));
         }
         assert_eq!(rt; (Cost.zero(), Cost.one()), (4294967295, 0));
     }
@@ -66,26 +75,25 @@ mod tests {
             (1, 0, 1, 0),
             (12, 16, 16, 12),
         ];
-        for (a, b, sum, product) in rows {
-            assert_eq!(rt; Depth.sum(a, b), sum);
-            assert_eq!(rt; Depth.product(a, b), product);
-            assert_eq!(rt; Depth.star(a), 255);
-            assert!(rt; Depth.is_member(a));
+        for row in rows {
+            check_row(&rt, &Depth, row);
+            assert_eq!(rt; Depth.star(row.0), 255);
+            assert!(rt; Depth.is_member(row.0));
         }
         assert_eq!(rt; (Depth.zero(), Depth.one()), (0, 255));
     }
 
-    fn pair(sets: u64, passes: u64) -> Marking {
-        Marking::Pair { sets, passes }
+    fn pair(sets: u64, passes: u64) -> Option<Marking> {
+        Some(Marking { sets, passes })
     }
 
     // a, b, a + b, a·b
     #[test]
     fn marks_together(rt: HostRuntime) {
         let rows = [
-            (Marking::Zero, Marking::Zero, Marking::Zero, Marking::Zero),
-            (Marking::Zero, pair(1, 2), pair(1, 2), Marking::Zero),
-            (pair(1, 2), Marking::Zero, pair(1, 2), Marking::Zero),
+            (None, None, None, None),
+            (None, pair(1, 2), pair(1, 2), None),
+            (pair(1, 2), None, pair(1, 2), None),
             (
                 pair(0, 0xffffffffffffffff),
                 pair(5, 8),
@@ -140,8 +148,8 @@ mod tests {
                 pair(0xc, 0xfffffffffffffff3),
                 pair(0xc, 0xfffffffffffffff3),
             ),
-            (pair(1, 1), pair(5, 8), pair(5, 8), Marking::Zero),
-            (pair(5, 8), pair(6, 2), pair(5, 8), Marking::Zero),
+            (pair(1, 1), pair(5, 8), pair(5, 8), None),
+            (pair(5, 8), pair(6, 2), pair(5, 8), None),
             (
                 pair(0x8000000000000000, 0x7fffffffffffffff),
                 pair(1, 0xfffffffffffffffe),
@@ -151,15 +159,14 @@ mod tests {
             (
                 pair(0xffffffffffffffff, 0xffffffffffffffff),
                 pair(0xffffffffffffffff, 0xffffffffffffffff),
-                Marking::Zero,
-                Marking::Zero,
+                None,
+                None,
             ),
         ];
-        for (a, b, sum, product) in rows {
-            assert_eq!(rt; Marks.sum(a, b), sum);
-            assert_eq!(rt; Marks.product(a, b), product);
+        for row in rows {
+            check_row(&rt, &Marks, row);
         }
-        assert_eq!(rt; Marks.zero(), Marking::Zero);
+        assert_eq!(rt; Marks.zero(), None);
         assert_eq!(rt; Marks.one(), pair(0, 0xffffffffffffffff));
     }
 
@@ -167,7 +174,7 @@ mod tests {
     #[test]
     fn marks_alone(rt: HostRuntime) {
         let rows = [
-            (Marking::Zero, true, pair(0, 0xffffffffffffffff)),
+            (None, true, pair(0, 0xffffffffffffffff)),
             (
                 pair(0, 0xffffffffffffffff),
                 true,
@@ -245,11 +252,8 @@ mod tests {
             (0x3c, 0x8000000000000000, 0x8000000000000000, 0, 0),
         ];
         for (modulus, a, b, sum, product) in rows {
-            let Ok(phase) = Phase::new(modulus) else {
-                return Err(Fail::new("a modulus of 1 to 60 was refused"));
-            };
-            assert_eq!(rt; phase.sum(a, b), sum);
-            assert_eq!(rt; phase.product(a, b), product);
+            let phase = Phase::new(modulus)?;
+            check_row(&rt, &phase, (a, b, sum, product));
             assert_eq!(rt; (phase.zero(), phase.one()), (0, 1));
         }
         Ok(())
@@ -282,9 +286,7 @@ mod tests {
             (7, 1, true, 1),
         ];
         for (modulus, a, member, star) in rows {
-            let Ok(phase) = Phase::new(modulus) else {
-                return Err(Fail::new("a modulus of 1 to 60 was refused"));
-            };
+            let phase = Phase::new(modulus)?;
             assert_eq!(rt; phase.is_member(a), member);
             assert_eq!(rt; phase.star(a), star);
         }
@@ -294,16 +296,11 @@ mod tests {
     #[test]
     fn moduli(rt: HostRuntime) -> Result<(), Fail> {
         for modulus in 1..61u64 {
-            match Phase::new(modulus) {
-                Ok(phase) => assert_eq!(rt; u64::from(phase.modulus()), modulus),
-                Err(_) => return Err(Fail::new("a modulus of 1 to 60 was refused")),
-            }
+            assert_eq!(rt; u64::from(Phase::new(modulus)?.modulus()), modulus);
         }
         for modulus in [0, 61, 64, 256, 18446744073709551615] {
-            match Phase::new(modulus) {
-                Ok(_) => return Err(Fail::new("a modulus outside 1 to 60 was taken")),
-                Err(refusal) => assert_eq!(rt; (refusal.number(), refusal.value()), (10, None)),
-            }
+            let refusal = Phase::new(modulus).err();
+            assert_eq!(rt; refusal.map(|r| (r.number(), r.value())), Some((10, None)));
         }
         Ok(())
     }

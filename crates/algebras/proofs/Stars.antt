@@ -1,109 +1,104 @@
 -- The greatest common divisor of a set of phases and its multiples, as loops find them. Assumes nothing.
-use Rattle.std.proofs.Common.{◌≡◌, ℕ, zero, suc, ◌+◌, ◌-◌, ◌*◌, ◌%◌, ◌^◌, ◌<◌, ◌≤◌, Bool, not, ◌&&◌, ◌||◌, eqb, ltb, sym, ap, ◌∙◌, subst, ⊎_elim, mod-eq_of_lt, zero-add, arith}
-use mathlib.Core.Path.{fun_ext}
-use native.Mathlib.Nat.{mod_self, mod-add-mod, add-mod_right, mod-mod_of_dvd, dvd_of_mod-eq-zero, pos_of_dvd_of_pos, le_of_dvd}
+use Rattle.std.proofs.Common.{◌≡◌, ℕ, ◌+◌, ◌-◌, ◌*◌, ◌%◌, ◌^◌, ◌<◌, ◌≤◌, not, ◌&&◌, ◌||◌, eqb, ltb, List, [], ◌∷◌, ◌++◌, sym, ap, ◌∙◌, mod-eq_of_lt, zero-add, arith, zero, suc, ⊎_elim, refl}
+use native.Mathlib.Nat.{mod_self, mod-add-mod}
 use lib.Bits.{bit_and, bit_or}
-use lib.Count.{count_trailing_zeros}
-use Rattle.std.proofs.lemmas.Nat.{pow_below, one_shl, and_le_l, or_lt}
-use Rattle.std.proofs.lemmas.Bool.{cases_eq}
-use Rattle.std.proofs.lemmas.Bool.Decides.{nat_tests}
-use Rattle.algebras.specs.Bits.{has, set_of, some, every}
-use Rattle.algebras.specs.Phases.{divides, greatest, gcd_with, Gcd}
-use Rattle.algebras.specs.BitsLemmas.{has-or, same_bits, set_of-below, has-set_of}
-use Rattle.algebras.proofs.Shifts.{has_bit, has-mod}
-use Rattle.algebras.proofs.Somewhere.{every-not, some_none, some-lowest}
+use Rattle.std.specs.Int.{IsGcd}
+use Rattle.std.specs.List.{list_any}
+use Rattle.std.proofs.lemmas.Nat.{pow_pos, and_le_r}
+use Rattle.std.proofs.lemmas.Nat.Gcd.{dvd_refl, dvd_trans}
+use Rattle.std.proofs.Math.Nat.{pos_of_dvd_of_pos}
+use Rattle.std.proofs.lemmas.List.Folds.{list_any-append}
+use Rattle.std.proofs.lemmas.Bool.{cases_lt}
+use Rattle.std.proofs.lemmas.Bool.Decides.{nat_tests, same_from_decides, Decides-and, Decides-like}
+use Rattle.bits.specs.Bits.{has, set_of, every, places}
+use Rattle.algebras.specs.Phases.{divides, gcd_with}
+use Rattle.algebras.specs.Divisors.{decides_divides, decides_common, gcd_unique}
+use Rattle.bits.specs.BitsLemmas.{has-or, has-zero, has_half, same_bits, set_of-below, has-set_of}
+use Rattle.bits.proofs.Places.{any-places}
+use Rattle.algebras.proofs.Shifts.{has-shl, has-below, has-mod, has_masked}
+use Rattle.algebras.proofs.Somewhere.{every-not}
 
--- a step of Euclid keeps the common divisors
-pub euclid-step : (d x y : ℕ) → (divides d y && divides d (x % y)) ≡ (divides d x && divides d y)
-euclid-step d x y =
-    ⊎_elim
-    (λ e. let same = mod-mod_of_dvd d x (dvd_of_mod-eq-zero d e) in grind (arith, nat_tests))
-    (λ other. grind (arith, nat_tests))
-    (cases_eq (y % d) 0)
+-- the divisors of a greatest common divisor are the common divisors
+divides_gcd : (a b g d : ℕ) → IsGcd a b g → divides d g ≡ (divides d a && divides d b)
+divides_gcd a b g d (first, second, greatest) =
+    same_from_decides (divides d g) (divides d a && divides d b)
+    (Decides-like (divides d g) (λ h. (dvd_trans d h first, dvd_trans d h second)) (λ h. greatest d h.0 h.1) (decides_divides d g))
+    (Decides-and (divides d a) (divides d b) (decides_divides d a) (decides_divides d b))
 
--- d divides g and every phase of a set
-abbrev common : (m g a d : ℕ) → Bool
-common m g a d = divides d g && every m (λ i. not (has a i) || divides d i)
+-- the divisors of g are those of the modulus that divide each number of a list
+abbrev pub Dividing : ℕ → List ℕ → ℕ → Type 0
+Dividing m xs g = (d : ℕ) → divides d g ≡ (divides d m && not (list_any (λ i. not (divides d i)) xs))
 
--- the common divisors of g and the phases of rest are those of the modulus and the phases of a
-abbrev pub Dividing : (m a g rest : ℕ) → Type 0
-Dividing m a g rest = (rest < 2 ^ m) × ((d : ℕ) → common m g rest d ≡ common m m a d)
+pub dividing_none : (m : ℕ) → Dividing m [] m
+dividing_none m d = grind arith
 
--- of a set, the test that some phase fails
-common-not : (m g a d : ℕ) → common m g a d ≡ (divides d g && not (some m (λ i. has a i && not (divides d i))))
-common-not m g a d = ap (λ t. divides d g && t) (every-not m (has a) (divides d))
+pub dividing-more : (m : ℕ) (xs : List ℕ) (g x next : ℕ) → Dividing m xs g → IsGcd g x next → Dividing m (xs ++ x ∷ []) next
+dividing-more m xs g x next dividing gcd d =
+    let now = divides_gcd g x next d gcd in
+    let before = dividing d in
+    let more = list_any-append (λ i. not (divides d i)) xs (x ∷ []) in
+    grind arith
 
--- the greatest divisor of g is g
-greatest_divisor : (n g : ℕ) → 1 ≤ g → g ≤ n → greatest n (λ d. divides d g) ≡ g
-greatest_divisor zero g low high = absurd (omega arith)
-greatest_divisor (suc n) g low high =
-    ⊎_elim
-    (λ e. let same = ap (λ x. x % suc n) e ∙ mod_self (suc n) in grind (arith, nat_tests))
-    (λ other.
-    let less : g < suc n = omega arith in
-    let same = mod-eq_of_lt less in
-    let before = greatest_divisor n g low (omega arith) in
-    grind (arith, nat_tests))
-    (cases_eq g (suc n))
+-- with every phase, g is the greatest common divisor
+pub dividing_all : (m a g : ℕ) → 1 ≤ m → m ≤ 64 → a < 2 ^ m → Dividing m (places 64 a) g → (g ≡ gcd_with m a) × (1 ≤ g)
+dividing_all m a g pos wide small dividing =
+    let same : (d : ℕ) → divides d g ≡ (divides d m && every m (λ i. not (has a i) || divides d i)) = λ d.
+    dividing d
+    ∙ ap (λ t. divides d m && not t) (any-places 64 m a (λ i. not (divides d i)) wide small)
+    ∙ ap (λ t. divides d m && t) (sym (every-not m (has a) (divides d))) in
+    let common = (decides_common m a g).0 (sym (same g) ∙ (decides_divides g g).1 (dvd_refl g)) in (
+      gcd_unique m a g pos common (λ d h. (decides_divides d g).0 (same d ∙ (decides_common m a d).1 h)),
+      pos_of_dvd_of_pos common.0 pos,
+    )
 
-module _ (m a : ℕ) where
-  pub dividing-more :
-      (g rest next : ℕ) → m ≤ 64 → 0 < rest → Gcd g (count_trailing_zeros 64 rest) next → Dividing m a g rest →
-      Dividing m a next (bit_and rest (rest - 1))
-  dividing-more g rest next wide pos gcd (small, same) = (
-    omega (arith, and_le_l rest (rest - 1)),
-    λ d.
-        let step = some-lowest m rest (λ i. not (divides d i)) wide pos small in
-        let now = common-not m next (bit_and rest (rest - 1)) d in
-        let before = common-not m g rest d in
-        let here = gcd d in
-        let whole = same d in
-        grind arith,
-  )
-
-  -- with no phase left, the divisors of g are the common divisors
-  divided : (g rest : ℕ) → rest ≡ 0 → Dividing m a g rest → (d : ℕ) → divides d g ≡ common m m a d
-  divided g rest e dividing d =
-      let none = some_none m (λ i. not (divides d i)) in
-      let now = common-not m g 0 d in
-      let whole = (subst (Dividing m a g) e dividing).1 d in
-      grind arith
-
-  pub dividing_all : (g rest : ℕ) → 1 ≤ m → rest ≡ 0 → Dividing m a g rest → (g ≡ gcd_with m a) × (1 ≤ g) × (g ≤ m)
-  dividing_all g rest pos e dividing =
-      let same = divided g rest e dividing in
-      let whole : m % g ≡ 0 = grind (arith, nat_tests, mod_self g, same g) in
-      let part = dvd_of_mod-eq-zero g whole in
-      let low = pos_of_dvd_of_pos part pos in
-      let high = le_of_dvd pos part in
-      (sym (greatest_divisor m g low high) ∙ ap (greatest m) (fun_ext same), low, high)
-
--- out has the multiples of g below k, which is one
-abbrev pub Filling : (m g out k : ℕ) → Type 0
-Filling m g out k = (out < 2 ^ m) × (k % g ≡ 0) × ((i : ℕ) → i < m → has out i ≡ (divides g i && ltb i k))
-
-near_multiple : (g k i : ℕ) → k % g ≡ 0 → k ≤ i → i < k + g → i % g ≡ i - k
-near_multiple g k i e from near =
+-- from a multiple k of g on, the multiples are those from 0 on
+from_multiple : (g k i : ℕ) → k % g ≡ 0 → k ≤ i → i % g ≡ (i - k) % g
+from_multiple g k i e from =
     let split : i ≡ k + (i - k) = omega arith in
-    let less : i - k < g = omega arith in
-    ap (λ n. n % g) split ∙ sym (mod-add-mod k g (i - k)) ∙ ap (λ n. (n + (i - k)) % g) e ∙ ap (λ n. n % g) (zero-add (i - k)) ∙ mod-eq_of_lt less
+    ap (λ n. n % g) split ∙ sym (mod-add-mod k g (i - k)) ∙ ap (λ n. (n + (i - k)) % g) e ∙ ap (λ n. n % g) (zero-add (i - k))
 
--- after a multiple k the next is k + g
-next_multiple : (g k i : ℕ) → k % g ≡ 0 → 1 ≤ g → ((divides g i && ltb i k) || eqb k i) ≡ (divides g i && ltb i (k + g))
-next_multiple g k i e pos = let near = near_multiple g k i e in grind (arith, nat_tests)
+has-one : (i : ℕ) → has 1 i ≡ eqb i 0
+has-one zero = refl
+has-one (suc i) = has_half 1 i ∙ has-zero i ∙ grind (arith, nat_tests)
 
-module _ (m g : ℕ) where
-  pub filling_more : (out k : ℕ) → m ≤ 64 → k < m → 1 ≤ g → Filling m g out k → Filling m g (bit_or out (1 * 2 ^ k % 2 ^ 64)) (k + g)
-  filling_more out k wide less pos (low, multiple, same) = (
-    or_lt m out _ low (omega (arith, one_shl k 64 (omega arith), pow_below k m less)),
-    add-mod_right k g ∙ multiple,
-    λ i hi.
-        has-or out _ i
-        ∙ ap (λ t. has out i || t) (has-mod 64 (1 * 2 ^ k) i (omega arith) ∙ has_bit k i)
-        ∙ ap (λ t. t || eqb k i) (same i hi)
-        ∙ next_multiple g k i multiple pos,
-  )
+-- out has the multiples of g below the span, which is one
+pub record Filling (g out span : ℕ) : Type 0 where
+  pub low : 1 ≤ span
+  pub multiple : span % g ≡ 0
+  pub same : (i : ℕ) → i < 64 → has out i ≡ (divides g i && ltb i span)
 
-  pub filling_all : (out k : ℕ) → m ≤ k → Filling m g out k → out ≡ set_of m (divides g)
-  filling_all out k end (low, multiple, same) =
-      same_bits m _ _ low (set_of-below m _) (λ i hi. same i hi ∙ grind (arith, nat_tests) ∙ sym (has-set_of m (divides g) i hi))
+module _ (g : ℕ) where
+  pub filling_first : 1 ≤ g → Filling g 1 g
+  filling_first pos = record {
+    low = pos;
+    multiple = mod_self g;
+    same = λ i h. has-one i ∙ ⊎_elim (λ less. let rest = mod-eq_of_lt less in grind (arith, nat_tests)) (λ more. grind (arith, nat_tests)) (cases_lt i g);
+  }
+
+  pub filling_more : (out span : ℕ) → span < 64 → Filling g out span → Filling g (bit_or out (out * 2 ^ span % 2 ^ 64)) (span * 2)
+  filling_more out span wide filling =
+      let multiple = filling.multiple in
+      let same = filling.same in
+      record {
+        low = let low = filling.low in omega arith;
+        multiple = let twice : span * 2 ≡ span + span = omega arith in
+            ap (λ n. n % g) twice ∙ sym (mod-add-mod span g span) ∙ ap (λ n. (n + span) % g) multiple ∙ ap (λ n. n % g) (zero-add span) ∙ multiple;
+        same = λ i h.
+            has-or out _ i
+            ∙ ap (λ t. has out i || t) (has-mod 64 (out * 2 ^ span) i h)
+            ∙ ⊎_elim
+            (λ less. let none = has-below out span i less in let here = same i h in grind (arith, nat_tests))
+            (λ more.
+            let split : span + (i - span) ≡ i = omega arith in
+            let up = ap (has (out * 2 ^ span)) (sym split) ∙ has-shl out span (i - span) in
+            let here = same i h in
+            let before = same (i - span) (omega arith) in
+            let near = from_multiple g span i multiple more in
+            grind (arith, nat_tests))
+            (cases_lt i span);
+      }
+
+  pub filling_all : (m out span : ℕ) → m ≤ 64 → m ≤ span → Filling g out span → bit_and out (2 ^ m - 1) ≡ set_of m (divides g)
+  filling_all m out span wide end filling =
+      same_bits m _ _ (omega (arith, and_le_r out (2 ^ m - 1), pow_pos m)) (set_of-below m _) (λ i hi.
+      has_masked m out i hi ∙ filling.same i (omega arith) ∙ grind (arith, nat_tests) ∙ sym (has-set_of m (divides g) i hi))

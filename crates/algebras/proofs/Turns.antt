@@ -1,16 +1,18 @@
 -- A set of phases that is turned by shifts. Assumes nothing.
-use Rattle.std.proofs.Common.{◌≡◌, ℕ, ◌+◌, ◌-◌, ◌*◌, ◌/◌, ◌%◌, ◌^◌, ◌<◌, ◌≤◌, Bool, ◌&&◌, ◌||◌, eqb, ◌⊎◌, sym, ap, ◌∙◌, subst, inl, inr, ⊎_elim, mod-eq_of_lt, arith}
+use Rattle.std.proofs.Common.{◌≡◌, ℕ, ◌+◌, ◌-◌, ◌*◌, ◌/◌, ◌%◌, ◌^◌, ◌<◌, ◌≤◌, Bool, false, not, ◌&&◌, ◌||◌, eqb, ltb, List, [], ◌∷◌, ◌⊎◌, sym, ap, ◌∙◌, subst, inl, inr, ⊎_elim, mod-eq_of_lt, arith}
 use native.Mathlib.Nat.{mod-eq-sub-mod}
 use lib.Bits.{bit_and, bit_or}
-use lib.Count.{count_trailing_zeros}
-use Rattle.std.proofs.lemmas.Nat.{pow_pos, and_le_l, and_le_r, or_lt}
-use Rattle.std.proofs.lemmas.Bool.{cases_lt}
+use Rattle.std.specs.List.{list_any}
+use Rattle.std.proofs.lemmas.Nat.{pow_pos, and_le_r, or_lt}
+use Rattle.std.proofs.lemmas.Bool.{cases_lt, cond_both, ltb-true}
 use Rattle.std.proofs.lemmas.Bool.Decides.{nat_tests}
-use Rattle.algebras.specs.Bits.{has, some}
+use Rattle.kleene.specs.Algebras.{taken}
+use Rattle.bits.specs.Bits.{has, some, places}
 use Rattle.algebras.specs.Phases.{later, phase_meaning}
-use Rattle.algebras.specs.BitsLemmas.{has-or, has_above, same_bits, set_of-below, has-set_of}
+use Rattle.bits.specs.BitsLemmas.{has-or, has-zero, has_above, same_bits, set_of-below, has-set_of}
+use Rattle.bits.proofs.Places.{any-places}
 use Rattle.algebras.proofs.Shifts.{has-shl, has-shr, has-below, has-mod, has_masked}
-use Rattle.algebras.proofs.Somewhere.{some_same, some-and, some_at, some_none, some-lowest}
+use Rattle.algebras.proofs.Somewhere.{some_same, some-and, some_at}
 
 -- k is a phase of b turned by i
 abbrev pub to : ℕ → ℕ → ℕ → ℕ → Bool
@@ -65,31 +67,37 @@ turned-is m b i wide hi small =
     ∙ shifts_are m b i k hi small hk
     ∙ sym (has-set_of m _ k hk))
 
--- out holds the phases of b turned by those of a, but for those that are still to be turned by the phases of rest
-abbrev pub Joining : (m a b out rest : ℕ) → Type 0
-Joining m a b out rest =
-    (out < 2 ^ m) × (rest < 2 ^ m)
-    × ((k : ℕ) → k < m → (has out k || some m (λ i. has rest i && to m b k i)) ≡ some m (λ i. has a i && to m b k i))
+-- an operand is a set of phases below the modulus
+pub operand-below : (m a : ℕ) → taken (phase_meaning m) a < 2 ^ m
+operand-below m a = cond_both (ltb a (2 ^ m)) a 0 (λ x. x < 2 ^ m) (ltb-true a (2 ^ m)) (λ _. pow_pos m)
 
-module _ (m a b : ℕ) where
-  pub joining-more :
-      (out rest more : ℕ) → m ≤ 64 → 0 < rest → more ≡ later m b (count_trailing_zeros 64 rest) → Joining m a b out rest →
-      Joining m a b (bit_or out more) (bit_and rest (rest - 1))
-  joining-more out rest more wide pos turned (low, small, same) = (
-    or_lt m out more low (subst (λ x. x < 2 ^ m) (sym turned) (set_of-below m _)),
-    omega (arith, and_le_l rest (rest - 1)),
-    λ k hk.
+-- out holds the phases of b turned by those of a list, but for those that are still to be turned by the rest of it
+pub record Joining (m b : ℕ) (all rest : List ℕ) (out : ℕ) : Type 0 where
+  pub low : out < 2 ^ m
+  pub below : list_any (λ i. not (ltb i m)) rest ≡ false
+  pub same : (k : ℕ) → k < m → (has out k || list_any (to m b k) rest) ≡ list_any (to m b k) all
+
+module _ (m b : ℕ) (all : List ℕ) where
+  pub joining_none : list_any (λ i. not (ltb i m)) all ≡ false → Joining m b all all 0
+  joining_none below = record { low = pow_pos m; below = below; same = λ k hk. let none = has-zero k in grind arith }
+
+  pub joining-more : (i : ℕ) (rest : List ℕ) (out more : ℕ) → more ≡ later m b i → Joining m b all (i ∷ rest) out → Joining m b all rest (bit_or out more)
+  joining-more i rest out more turned joining = record {
+    low = or_lt m out more joining.low (subst (λ x. x < 2 ^ m) (sym turned) (set_of-below m _));
+    below = let below = joining.below in grind arith;
+    same = λ k hk.
         let new = has-or out more k ∙ ap (λ x. has out k || has x k) turned ∙ ap (λ t. has out k || t) (has-set_of m _ k hk) in
-        let step = some-lowest m rest (to m b k) wide pos small in
-        let before = same k hk in
-        grind arith,
-  )
+        let before = joining.same k hk in
+        grind arith;
+  }
 
-  pub joining_all : (out rest : ℕ) → rest ≡ 0 → Joining m a b out rest → out ≡ (phase_meaning m).on.product a b
-  joining_all out rest e joining =
-      let (low, small, same) = subst (Joining m a b out) e joining in
-      same_bits m _ _ low (set_of-below m _) (λ k hk.
-      let none = some_none m (to m b k) in
-      let done = same k hk in
-      let whole : has out k ≡ some m (λ i. has a i && to m b k i) = grind arith in
-      whole ∙ some_same m _ _ (λ i _. sym (some-and m (has a i) (λ j. has b j && eqb ((i + j) % m) k))) ∙ sym (has-set_of m _ k hk))
+  pub joining_all : (a out : ℕ) → m ≤ 64 → a < 2 ^ m → all ≡ places 64 a → Joining m b all [] out → out ≡ (phase_meaning m).on.product a b
+  joining_all a out wide small e joining =
+      same_bits m _ _ joining.low (set_of-below m _) (λ k hk.
+      let done = joining.same k hk in
+      let whole : has out k ≡ list_any (to m b k) all = grind arith in
+      whole
+      ∙ ap (list_any (to m b k)) e
+      ∙ any-places 64 m a (to m b k) wide small
+      ∙ some_same m _ _ (λ i _. sym (some-and m (has a i) (λ j. has b j && eqb ((i + j) % m) k)))
+      ∙ sym (has-set_of m _ k hk))

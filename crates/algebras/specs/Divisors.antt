@@ -6,7 +6,7 @@ use Rattle.std.proofs.Math.Nat.{dvd_refl, dvd-zero, dvd_trans, one-dvd, dvd-mod_
 use Rattle.std.proofs.lemmas.Nat.{mod_below}
 use Rattle.std.proofs.lemmas.Bool.{both_ways, false≢true, cases_eq, cond_both, cond-true}
 use Rattle.std.proofs.lemmas.Bool.Decides.{Decides-and, Decides-like, Decides-eqb, Decides-below_and}
-use Rattle.algebras.specs.Bits.{has, every}
+use Rattle.bits.specs.Bits.{has, every}
 use Rattle.algebras.specs.Phases.{divides, greatest, gcd_with}
 
 pub decides_divides : (d n : ℕ) → Decides (divides d n) (d ∣ n)
@@ -21,10 +21,10 @@ abbrev pub Common : ℕ → ℕ → ℕ → Type 0
 Common m a d = (d ∣ m) × ((i : ℕ) → i < m → has a i ≡ true → d ∣ i)
 
 -- the test of `gcd_with`
-abbrev common : ℕ → ℕ → ℕ → Bool
+abbrev pub common : ℕ → ℕ → ℕ → Bool
 common m a d = divides d m && every m (λ i. not (has a i) || divides d i)
 
-decides_common : (m a d : ℕ) → Decides (common m a d) (Common m a d)
+pub decides_common : (m a d : ℕ) → Decides (common m a d) (Common m a d)
 decides_common m a d =
     let test : ℕ → Bool = λ i. not (has a i) || divides d i in
     Decides-and (divides d m) (every m test) (decides_divides d m)
@@ -46,7 +46,7 @@ gcd_common m a pos =
     (decides_common m a (gcd_with m a)).0 (greatest_is m (common m a) 1 (omega arith) pos passes).0
 
 -- a common divisor into which every common divisor divides is the greatest
-gcd_unique : (m a g : ℕ) → 1 ≤ m → Common m a g → ((d : ℕ) → Common m a d → d ∣ g) → g ≡ gcd_with m a
+pub gcd_unique : (m a g : ℕ) → 1 ≤ m → Common m a g → ((d : ℕ) → Common m a d → d ∣ g) → g ≡ gcd_with m a
 gcd_unique m a g pos divisor greatest-one =
     let low : 1 ≤ g = pos_of_dvd_of_pos divisor.0 pos in
     let best = greatest_is m (common m a) g low (le_of_dvd pos divisor.0) ((decides_common m a g).1 divisor) in

@@ -1,8 +1,6 @@
-pub mod Bits
 pub mod Formulas
 pub mod Marks
 pub mod Phases
 pub mod MarkLaws
-pub mod BitsLemmas
 pub mod PhasesLemmas
 pub mod Divisors

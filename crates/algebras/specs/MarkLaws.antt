@@ -1,16 +1,15 @@
 -- The marks keep the laws of a Kleene algebra: each mark by itself does, and a marking is what it does to each mark.
 -- Assumes nothing.
-use Rattle.std.specs.Prelude.{◌≡◌, ℕ, ◌-◌, ◌^◌, ◌<◌, Bool, true, false, not, ◌&&◌, ◌||◌, ◌==◌, bit_and, bit_or, nat_le, refl}
+use Rattle.std.specs.Prelude.{◌≡◌, ℕ, ◌-◌, ◌^◌, ◌<◌, Bool, true, false, not, ◌&&◌, ◌||◌, ◌==◌, bit_and, bit_or, nat_le, Option, Some, None, refl}
 use Rattle.std.proofs.Common.{ap, sym, subst, ◌∙◌, arith}
 use Rattle.std.proofs.lemmas.Nat.{or_lt, and_le_l}
 use Rattle.std.proofs.lemmas.Bool.{and_parts, and_from, leb-true, le-leb, eqb-true, eq-eqb, not-true}
 use Rattle.kleene.specs.Algebras.{Meaning, Kleene}
 use Rattle.kleene.proofs.Parts.{parts_laws}
-use Rattle.algebras.specs.Bits.{has}
-use Rattle.algebras.specs.Marks.{all, others, member_of, sum_of, product_of, star_of, marks_meaning}
+use Rattle.bits.specs.Bits.{has}
+use Rattle.algebras.specs.Marks.{all, others, member_of, untouched, sum_of, product_of, star_of, marks_meaning}
 use Rattle.algebras.specs.declared.marks.Marking.{Marking}
-use Rattle.algebras.specs.declared.marks.Marking.TheVariants.{Zero, Pair}
-use Rattle.algebras.specs.BitsLemmas.{has-or, has-and, has-zero, has-set_of, has_rest, set_of-below, same_bits}
+use Rattle.bits.specs.BitsLemmas.{has-or, has-and, has-zero, has-set_of, has_rest, set_of-below, same_bits}
 
 -- what becomes of one mark: nothing comes through, or the mark is set, passed on, or neither
 data Fate : Type 0 where
@@ -69,9 +68,9 @@ abbrev Mark : Type 0
 Mark = (i : ℕ) × (i < 64)
 
 -- what a marking makes of mark i
-abbrev at : Mark → Marking → Fate
-at i Zero = lost
-at i (Pair s p) = fate (has s i.0) (has p i.0)
+abbrev at : Mark → Option Marking → Fate
+at i None = lost
+at i (Some m) = fate (has m.sets i.0) (has m.passes i.0)
 
 fate-same : {s t p q : Bool} → s ≡ t → p ≡ q → fate s p ≡ fate t q
 fate-same e f = λ i. fate (e i) (f i)
@@ -80,73 +79,78 @@ has-others : (i : Mark) (x : ℕ) → has (others x) i.0 ≡ not (has x i.0)
 unfolding others
 has-others i x = has-set_of 64 (λ j. not (has x j)) i.0 i.1
 
-sum-at : (i : Mark) (a b : Marking) → at i (sum_of a b) ≡ fate_sum (at i a) (at i b)
-sum-at i Zero b = refl
-sum-at i (Pair s p) Zero = refl
-sum-at i (Pair s p) (Pair t q) =
-    fate-same (has-or s t _) (has-and _ _ _ ∙ λ j. has-or p q i.0 j && (has-others i (bit_or s t) ∙ ap not (has-or s t i.0)) j)
+sum-at : (i : Mark) (a b : Option Marking) → at i (sum_of a b) ≡ fate_sum (at i a) (at i b)
+sum-at i None b = refl
+sum-at i (Some m) None = refl
+sum-at i (Some m) (Some n) =
+    let sets = has-or m.sets n.sets i.0 in
+    fate-same sets (has-and _ _ _ ∙ λ j. has-or m.passes n.passes i.0 j && (has-others i (bit_or m.sets n.sets) ∙ ap not sets) j)
 
-product_at : (i : Mark) (a b : Marking) → at i (product_of a b) ≡ fate_product (at i a) (at i b)
-product_at i Zero b = refl
-product_at i (Pair s p) Zero = refl
-product_at i (Pair s p) (Pair t q) = fate-same (has-or t _ _ ∙ ap (λ x. has t i.0 || x) (has-and s q _)) (has-and p q _)
+product_at : (i : Mark) (a b : Option Marking) → at i (product_of a b) ≡ fate_product (at i a) (at i b)
+product_at i None b = refl
+product_at i (Some m) None = refl
+product_at i (Some m) (Some n) =
+    fate-same (has-or n.sets _ _ ∙ ap (λ x. has n.sets i.0 || x) (has-and m.sets n.passes _)) (has-and m.passes n.passes _)
 
-one_at : (i : Mark) → at i (Pair 0 all) ≡ fate false true
-one_at i = fate-same (has-zero _) (has_rest 64 0 i.0 (omega arith) i.1 ∙ ap not (has-zero _))
+one_at : (i : Mark) → at i (Some untouched) ≡ fate false true
+one_at i = fate-same (has-zero _) (has_rest 0 i.0 (omega arith) i.1 ∙ ap not (has-zero _))
 
-star-at : (i : Mark) (a : Marking) → at i (star_of a) ≡ fate_star (at i a)
-star-at i Zero = one_at i
-star-at i (Pair s p) = fate-same refl (has-others i s)
+star-at : (i : Mark) (a : Option Marking) → at i (star_of a) ≡ fate_star (at i a)
+star-at i None = one_at i
+star-at i (Some m) = fate-same refl (has-others i m.sets)
 
 -- a pair of 64-bit sets is a member just where it makes a member of each mark
-record Whole (s p : ℕ) : Type 0 where
-  sets : s < 2 ^ 64
-  passes : p < 2 ^ 64
-  apart : bit_and s p ≡ 0
+record Whole (m : Marking) : Type 0 where
+  sets : m.sets < 2 ^ 64
+  passes : m.passes < 2 ^ 64
+  apart : bit_and m.sets m.passes ≡ 0
 
-whole : (s p : ℕ) → member_of (Pair s p) ≡ true → Whole s p
-whole s p h =
-    let (l, r) = and_parts (nat_le s all) (nat_le p all && bit_and s p == 0) h in
-    let (u, v) = and_parts (nat_le p all) (bit_and s p == 0) r in
-    record { sets = omega (arith, leb-true s all l); passes = omega (arith, leb-true p all u); apart = eqb-true _ 0 v }
+whole : (m : Marking) → member_of (Some m) ≡ true → Whole m
+whole m h =
+    let (l, r) = and_parts (nat_le m.sets all) (nat_le m.passes all && bit_and m.sets m.passes == 0) h in
+    let (u, v) = and_parts (nat_le m.passes all) (bit_and m.sets m.passes == 0) r in
+    record { sets = omega (arith, leb-true m.sets all l); passes = omega (arith, leb-true m.passes all u); apart = eqb-true _ 0 v }
 
-at-member : (i : Mark) (a : Marking) → member_of a ≡ true → fate_member (at i a) ≡ true
-at-member i Zero h = refl
-at-member i (Pair s p) h = ap not (sym (has-and s p i.0) ∙ ap (λ x. has x i.0) (whole s p h).apart ∙ has-zero i.0)
+at-member : (i : Mark) (a : Option Marking) → member_of a ≡ true → fate_member (at i a) ≡ true
+at-member i None h = refl
+at-member i (Some m) h = ap not (sym (has-and m.sets m.passes i.0) ∙ ap (λ x. has x i.0) (whole m h).apart ∙ has-zero i.0)
 
-pair-member : (s p : ℕ) → s < 2 ^ 64 → p < 2 ^ 64 → ((i : Mark) → fate_member (at i (Pair s p)) ≡ true) → member_of (Pair s p) ≡ true
-pair-member s p hs hp each =
-    and_from _ _ (le-leb s all (omega arith)) (and_from _ _ (le-leb p all (omega arith)) (eq-eqb _ 0 (
-    same_bits 64 (bit_and s p) 0 (omega (arith, and_le_l s p)) (omega arith) (λ i h. has-and s p i ∙ not-true _ (each (i, h)) ∙ sym (has-zero i)))))
+pair-member : (m : Marking) → m.sets < 2 ^ 64 → m.passes < 2 ^ 64 → ((i : Mark) → fate_member (at i (Some m)) ≡ true) → member_of (Some m) ≡ true
+pair-member m hs hp each =
+    and_from _ _ (le-leb m.sets all (omega arith)) (and_from _ _ (le-leb m.passes all (omega arith)) (eq-eqb _ 0 (
+    same_bits 64 (bit_and m.sets m.passes) 0 (omega (arith, and_le_l m.sets m.passes)) (omega arith) (λ i h. has-and m.sets m.passes i ∙ not-true _ (each (i, h)) ∙ sym (has-zero i)))))
 
-told : (a b : Marking) → member_of a ≡ true → member_of b ≡ true → ((i : Mark) → at i a ≡ at i b) → a ≡ b
-told Zero Zero ha hb each = refl
-told Zero (Pair t q) ha hb each = let e = each (0, omega arith) in cc
-told (Pair s p) Zero ha hb each = let e = each (0, omega arith) in cc
-told (Pair s p) (Pair t q) ha hb each =
-    let a = whole s p ha in
-    let b = whole t q hb in
-    let sets = same_bits 64 s t a.sets b.sets (λ i h. let e = each (i, h) in cc) in
-    let passes = same_bits 64 p q a.passes b.passes (λ i h. let e = each (i, h) in cc) in
-    λ j. Pair (sets j) (passes j)
+told : (a b : Option Marking) → member_of a ≡ true → member_of b ≡ true → ((i : Mark) → at i a ≡ at i b) → a ≡ b
+told None None ha hb each = refl
+told None (Some n) ha hb each = let e = each (0, omega arith) in cc
+told (Some m) None ha hb each = let e = each (0, omega arith) in cc
+told (Some m) (Some n) ha hb each =
+    let a = whole m ha in
+    let b = whole n hb in
+    let sets = same_bits 64 m.sets n.sets a.sets b.sets (λ i h. let e = each (i, h) in cc) in
+    let passes = same_bits 64 m.passes n.passes a.passes b.passes (λ i h. let e = each (i, h) in cc) in
+    λ j. Some (record { sets = sets j; passes = passes j })
 
-sum-member : (a b : Marking) → member_of a ≡ true → member_of b ≡ true → member_of (sum_of a b) ≡ true
-sum-member Zero b ha hb = hb
-sum-member (Pair s p) Zero ha hb = ha
-sum-member (Pair s p) (Pair t q) ha hb =
-    let a = whole s p ha in
-    let b = whole t q hb in
-    pair-member _ _ (or_lt 64 s t a.sets b.sets) (omega (arith, and_le_l (bit_or p q) (others (bit_or s t)), or_lt 64 p q a.passes b.passes))
-    (λ i. subst (λ f. fate_member f ≡ true) (sym (sum-at i (Pair s p) (Pair t q))) (fate_laws.sum-member (at i (Pair s p)) (at i (Pair t q)) (at-member i (Pair s p) ha) (at-member i (Pair t q) hb)))
+sum-member : (a b : Option Marking) → member_of a ≡ true → member_of b ≡ true → member_of (sum_of a b) ≡ true
+sum-member None b ha hb = hb
+sum-member (Some m) None ha hb = ha
+sum-member (Some m) (Some n) ha hb =
+    let a = whole m ha in
+    let b = whole n hb in
+    let sets = bit_or m.sets n.sets in
+    pair-member (record { sets = sets; passes = bit_and (bit_or m.passes n.passes) (others sets) })
+    (or_lt 64 m.sets n.sets a.sets b.sets) (omega (arith, and_le_l (bit_or m.passes n.passes) (others sets), or_lt 64 m.passes n.passes a.passes b.passes))
+    (λ i. subst (λ f. fate_member f ≡ true) (sym (sum-at i (Some m) (Some n))) (fate_laws.sum-member (at i (Some m)) (at i (Some n)) (at-member i (Some m) ha) (at-member i (Some n) hb)))
 
-product-member : (a b : Marking) → member_of a ≡ true → member_of b ≡ true → member_of (product_of a b) ≡ true
-product-member Zero b ha hb = refl
-product-member (Pair s p) Zero ha hb = refl
-product-member (Pair s p) (Pair t q) ha hb =
-    let a = whole s p ha in
-    let b = whole t q hb in
-    pair-member _ _ (or_lt 64 t (bit_and s q) b.sets (omega (arith, and_le_l s q, a.sets))) (omega (arith, and_le_l p q, a.passes))
-    (λ i. subst (λ f. fate_member f ≡ true) (sym (product_at i (Pair s p) (Pair t q))) (fate_laws.product-member (at i (Pair s p)) (at i (Pair t q)) (at-member i (Pair s p) ha) (at-member i (Pair t q) hb)))
+product-member : (a b : Option Marking) → member_of a ≡ true → member_of b ≡ true → member_of (product_of a b) ≡ true
+product-member None b ha hb = refl
+product-member (Some m) None ha hb = refl
+product-member (Some m) (Some n) ha hb =
+    let a = whole m ha in
+    let b = whole n hb in
+    pair-member (record { sets = bit_or n.sets (bit_and m.sets n.passes); passes = bit_and m.passes n.passes })
+    (or_lt 64 n.sets (bit_and m.sets n.passes) b.sets (omega (arith, and_le_l m.sets n.passes, a.sets))) (omega (arith, and_le_l m.passes n.passes, a.passes))
+    (λ i. subst (λ f. fate_member f ≡ true) (sym (product_at i (Some m) (Some n))) (fate_laws.product-member (at i (Some m)) (at i (Some n)) (at-member i (Some m) ha) (at-member i (Some n) hb)))
 
 others_below : (x : ℕ) → others x < 2 ^ 64
 unfolding others
@@ -154,13 +158,13 @@ others_below x = set_of-below 64 (λ i. not (has x i))
 
 -- what all 64 bits leave of x is every mark that is not in x
 pub rest_is : (x : ℕ) → x < 2 ^ 64 → all - x ≡ others x
-rest_is x h = same_bits 64 (all - x) (others x) (omega arith) (others_below x) (λ i below. has_rest 64 x i h below ∙ sym (has-others (i, below) x))
+rest_is x h = same_bits 64 (all - x) (others x) (omega arith) (others_below x) (λ i below. has_rest x i h below ∙ sym (has-others (i, below) x))
 
-star-member : (a : Marking) → member_of a ≡ true → member_of (star_of a) ≡ true
-star-member Zero h = refl
-star-member (Pair s p) h =
-    pair-member _ _ (whole s p h).sets (others_below s)
-    (λ i. subst (λ f. fate_member f ≡ true) (sym (star-at i (Pair s p))) (fate_laws.star-member (at i (Pair s p)) (at-member i (Pair s p) h)))
+star-member : (a : Option Marking) → member_of a ≡ true → member_of (star_of a) ≡ true
+star-member None h = refl
+star-member (Some m) h =
+    pair-member (record { sets = m.sets; passes = others m.sets }) (whole m h).sets (others_below m.sets)
+    (λ i. subst (λ f. fate_member f ≡ true) (sym (star-at i (Some m))) (fate_laws.star-member (at i (Some m)) (at-member i (Some m) h)))
 
 pub marks_laws : Kleene marks_meaning
 marks_laws = parts_laws {k = λ _. fate_meaning} {part = at} (record {

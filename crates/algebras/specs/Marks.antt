@@ -1,9 +1,8 @@
 -- The algebra of the marks that may arrive. Assumes nothing.
-use Rattle.std.specs.Prelude.{ℕ, Bool, true, not, ◌&&◌, ◌==◌, bit_and, bit_or, nat_le}
+use Rattle.std.specs.Prelude.{ℕ, Bool, true, not, ◌&&◌, ◌==◌, bit_and, bit_or, nat_le, Option, Some, None}
 use Rattle.kleene.specs.Algebras.{Meaning}
-use Rattle.algebras.specs.Bits.{has, set_of}
+use Rattle.bits.specs.Bits.{has, set_of}
 use Rattle.algebras.specs.declared.marks.Marking.{Marking}
-use Rattle.algebras.specs.declared.marks.Marking.TheVariants.{Zero, Pair}
 
 -- all 64 marks
 abbrev pub all : ℕ
@@ -13,35 +12,41 @@ all = 18446744073709551615
 unfoldable pub others : ℕ → ℕ
 others x = set_of 64 (λ i. not (has x i))
 
--- zero, or a pair of sets of marks that share none: those that it sets, and those that it passes on
-abbrev pub member_of : Marking → Bool
-member_of Zero = true
-member_of (Pair sets passes) = nat_le sets all && (nat_le passes all && bit_and sets passes == 0)
+-- None is zero. A marking is a pair of sets of marks that share none: those that it sets, and those that it passes on.
+abbrev pub member_of : Option Marking → Bool
+member_of None = true
+member_of (Some m) = nat_le m.sets all && (nat_le m.passes all && bit_and m.sets m.passes == 0)
+
+-- sets nothing, and passes every mark
+abbrev pub untouched : Marking
+untouched = record { sets = 0; passes = all }
 
 -- Zero is neutral. A sum sets what either sets, and passes what either passes, less what it sets.
-abbrev pub sum_of : Marking → Marking → Marking
-sum_of Zero b = b
-sum_of (Pair s p) Zero = Pair s p
-sum_of (Pair s p) (Pair t q) = Pair (bit_or s t) (bit_and (bit_or p q) (others (bit_or s t)))
+abbrev pub sum_of : Option Marking → Option Marking → Option Marking
+sum_of None b = b
+sum_of (Some m) None = Some m
+sum_of (Some m) (Some n) =
+    Some (record { sets = bit_or m.sets n.sets; passes = bit_and (bit_or m.passes n.passes) (others (bit_or m.sets n.sets)) })
 
 -- With zero it is zero. A product sets what the second sets, and what the first sets and the second passes; it passes
 -- what both pass.
-abbrev pub product_of : Marking → Marking → Marking
-product_of Zero b = Zero
-product_of (Pair s p) Zero = Zero
-product_of (Pair s p) (Pair t q) = Pair (bit_or t (bit_and s q)) (bit_and p q)
+abbrev pub product_of : Option Marking → Option Marking → Option Marking
+product_of None b = None
+product_of (Some m) None = None
+product_of (Some m) (Some n) =
+    Some (record { sets = bit_or n.sets (bit_and m.sets n.passes); passes = bit_and m.passes n.passes })
 
--- The star of zero is one. A pair's star sets what the pair sets, and passes every other mark.
-abbrev pub star_of : Marking → Marking
-star_of Zero = Pair 0 all
-star_of (Pair s p) = Pair s (others s)
+-- The star of zero is one. A marking's star sets what the marking sets, and passes every other mark.
+abbrev pub star_of : Option Marking → Option Marking
+star_of None = Some untouched
+star_of (Some m) = Some (record { sets = m.sets; passes = others m.sets })
 
-abbrev pub marks_meaning : Meaning Marking
+abbrev pub marks_meaning : Meaning (Option Marking)
 marks_meaning = record {
   member = member_of;
   on = record {
-    zero = Zero;
-    one = Pair 0 all;
+    zero = None;
+    one = Some untouched;
     sum = sum_of;
     product = product_of;
     star = star_of;

@@ -1,8 +1,8 @@
 -- Sets of cadence phases, to a modulus. Assumes nothing.
-use Rattle.std.specs.Prelude.{◌≡◌, ℕ, zero, suc, ◌+◌, ◌%◌, ◌^◌, Bool, cond, not, ◌&&◌, ◌||◌, None, ◌==◌, bit_or, nat_le, nat_lt}
+use Rattle.std.specs.Prelude.{ℕ, zero, suc, ◌+◌, ◌%◌, ◌^◌, Bool, cond, not, ◌&&◌, ◌||◌, None, ◌==◌, bit_or, nat_le, nat_lt}
 use Rattle.kleene.specs.Algebras.{Meaning}
 use Rattle.refusals.specs.Refused.{Outcome, done, refused}
-use Rattle.algebras.specs.Bits.{has, set_of, some, every}
+use Rattle.bits.specs.Bits.{has, set_of, some, every}
 
 abbrev pub divides : ℕ → ℕ → Bool
 divides d n = n % d == 0
@@ -15,10 +15,6 @@ greatest (suc n) test = cond (test (suc n)) (suc n) (greatest n test)
 -- the greatest common divisor of the modulus and all phases of a
 abbrev pub gcd_with : ℕ → ℕ → ℕ
 gcd_with m a = greatest m (λ d. divides d m && every m (λ i. not (has a i) || divides d i))
-
--- r is the greatest common divisor of a and b: its divisors are their common divisors
-abbrev pub Gcd : ℕ → ℕ → ℕ → Type 0
-Gcd a b r = (d : ℕ) → divides d r ≡ (divides d a && divides d b)
 
 -- the phases of b, each later by i: every (i + j) mod m with j in b
 abbrev pub later : ℕ → ℕ → ℕ → ℕ

@@ -9,9 +9,9 @@ use Rattle.std.proofs.lemmas.Nat.{pow_pos, pow_below, mod_below, or_comm, or_lt}
 use Rattle.std.proofs.lemmas.Bool.{both_ways, ltb-true, lt-ltb}
 use Rattle.std.proofs.lemmas.Bool.Decides.{same_from_decides, Decides-at, Decides-and, Decides-or, Decides-eqb, Decides-below_or}
 use Rattle.kleene.specs.Algebras.{Kleene}
-use Rattle.algebras.specs.Bits.{has, some}
+use Rattle.bits.specs.Bits.{has, some}
 use Rattle.algebras.specs.Phases.{gcd_with, phase_meaning}
-use Rattle.algebras.specs.BitsLemmas.{has-or, has_half, has-zero, same_bits, set_of-below, has-set_of}
+use Rattle.bits.specs.BitsLemmas.{has-or, has_half, has-zero, same_bits, set_of-below, has-set_of}
 use Rattle.algebras.specs.Divisors.{decides_divides, gcd_common, gcd_within}
 
 -- phase i is in the set x

@@ -1,10 +1,10 @@
 // The algebra of cadence phases.
-ghost use Rattle.std.specs.Prelude.{◌≡◌, ◌^◌, ◌<◌, ◌≤◌};
-ghost use Rattle.kleene.specs.Algebras.{taken};
+ghost use Rattle.std.specs.Prelude.{◌≡◌, ◌≤◌};
 ghost use Rattle.refusals.specs.Refused.{outcome};
 ghost use Rattle.algebras.specs.Phases.{phase_meaning, modulus_outcome};
 ghost use Rattle.algebras.specs.PhasesLemmas.{phase_laws};
 
+use bits::Ones;
 use kleene::Algebra;
 use refusals::Refusal;
 
@@ -23,12 +23,11 @@ impl Phase {
     pub fn new(modulus: u64) -> Result<Phase, Refusal>
         ensures { outcome (λ p. p.modulus) result ≡ modulus_outcome modulus }
     {
-        if 1 <= modulus && modulus <= 60 {
-            Ok(Phase {
+        match modulus {
+            1..=60 => Ok(Phase {
                 modulus: modulus as u32,
-            })
-        } else {
-            Err(Refusal::ModulusRange)
+            }),
+            _ => Err(Refusal::ModulusRange),
         }
     }
 
@@ -37,14 +36,6 @@ impl Phase {
         ensures { result ≡ self.now.modulus }
     {
         self.modulus
-    }
-
-    // This set, or the empty set where it is no member.
-    fn operand(&self, a: u64) -> u64
-        ensures value { result ≡ taken (phase_meaning self.now.modulus) a }
-        ensures small { result < 2 ^ self.now.modulus }
-    {
-        if self.is_member(a) { a } else { 0 }
     }
 }
 
@@ -56,7 +47,7 @@ impl Algebra for Phase {
     ghost kleene = { λ s. phase_laws s.modulus s.low };
 
     fn is_member(&self, a: u64) -> bool {
-        a <= sets::mask(self.modulus)
+        a <= self.mask()
     }
 
     fn zero(&self) -> u64 {
@@ -72,10 +63,15 @@ impl Algebra for Phase {
     }
 
     fn product(&self, a: u64, b: u64) -> u64 {
-        sets::joined(self.modulus, self.operand(a), self.operand(b))
+        let second = self.operand(b);
+        let mut out = 0;
+        for i in Ones(self.operand(a)) {
+            out |= self.turned(second, i);
+        }
+        out
     }
 
     fn star(&self, a: u64) -> u64 {
-        sets::multiples(self.modulus, sets::gcd_with(self.modulus, self.operand(a)))
+        self.multiples(self.gcd_with(a))
     }
 }

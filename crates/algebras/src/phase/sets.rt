@@ -1,41 +1,17 @@
-// Sets of phases below a modulus of 1 to 60, as numbers with bit i for phase i.
+// What becomes of sets of phases, as numbers with bit i for phase i.
 ghost use Rattle.std.specs.Prelude.{◌≡◌, ◌-◌, ◌^◌, ◌<◌, ◌≤◌};
-ghost use Rattle.algebras.specs.Bits.{set_of};
-ghost use Rattle.algebras.specs.Phases.{phase_meaning, divides, gcd_with, later, Gcd};
+ghost use Rattle.std.specs.Int.{IsGcd};
+ghost use Rattle.kleene.specs.Algebras.{taken};
+ghost use Rattle.bits.specs.Bits.{set_of};
+ghost use Rattle.algebras.specs.Phases.{phase_meaning, divides, gcd_with, later};
 
-// Every phase below the modulus.
-pub(super) fn mask(modulus: u32) -> u64
-    requires { modulus ≤ 60 }
-    ensures { result ≡ 2 ^ modulus - 1 }
-{
-    (1 << modulus) - 1
-}
+use super::Phase;
+use bits::Ones;
+use kleene::Algebra;
 
-// The phases of b, each later by i, which wraps at the modulus.
-fn turned(modulus: u32, b: u64, i: u32) -> u64
-    requires { (modulus ≤ 60) × ((b < 2 ^ modulus) × (i < modulus)) }
-    ensures { result ≡ later modulus b i }
-{
-    ((b << i) | (b >> (modulus - i))) & mask(modulus)
-}
-
-// Every (i + j) % modulus with i in a and j in b.
-pub(super) fn joined(modulus: u32, a: u64, b: u64) -> u64
-    requires { (modulus ≤ 60) × ((a < 2 ^ modulus) × (b < 2 ^ modulus)) }
-    ensures { result ≡ (phase_meaning modulus).on.product a b }
-{
-    let mut out = 0;
-    let mut rest = a;
-    while rest != 0 {
-        out |= turned(modulus, b, rest.trailing_zeros());
-        rest &= rest - 1;
-    }
-    out
-}
-
-// The greatest common divisor, by Euclid.
+// The greatest common divisor, by Euclid. The loop counts nothing by hand: each turn is the next remainder.
 fn gcd(a: u32, b: u32) -> u32
-    ensures { Gcd a b result }
+    ensures { IsGcd a b result }
 {
     let (mut x, mut y) = (a, b);
     while y != 0 {
@@ -44,32 +20,41 @@ fn gcd(a: u32, b: u32) -> u32
     x
 }
 
-// The greatest common divisor of the modulus and all phases of a.
-pub(super) fn gcd_with(modulus: u32, a: u64) -> u32
-    requires { (1 ≤ modulus) × ((modulus ≤ 60) × (a < 2 ^ modulus)) }
-    ensures value { result ≡ gcd_with modulus a }
-    ensures low { 1 ≤ result }
-    ensures high { result ≤ modulus }
-{
-    let mut g = modulus;
-    let mut rest = a;
-    while rest != 0 {
-        g = gcd(g, rest.trailing_zeros());
-        rest &= rest - 1;
+impl Phase {
+    // Every phase below the modulus.
+    pub(super) fn mask(&self) -> u64
+        ensures { result ≡ 2 ^ self.now.modulus - 1 }
+    {
+        (1 << self.modulus) - 1
     }
-    g
-}
 
-// The multiples of g below the modulus.
-pub(super) fn multiples(modulus: u32, g: u32) -> u64
-    requires { (modulus ≤ 60) × ((1 ≤ g) × (g ≤ modulus)) }
-    ensures { result ≡ set_of modulus (λ k. divides g k) }
-{
-    let mut out = 0;
-    let mut k = 0;
-    while k < modulus {
-        out |= 1 << k;
-        k += g;
+    // The phases of b, each later by i, which wraps at the modulus.
+    pub(super) fn turned(&self, b: u64, i: u32) -> u64
+        requires { (b < 2 ^ self.now.modulus) × (i < self.now.modulus) }
+        ensures { result ≡ later self.now.modulus b i }
+    {
+        ((b << i) | (b >> (self.modulus - i))) & self.mask()
     }
-    out
+
+    // The greatest common divisor of the modulus and all phases of a, where it is a member.
+    pub(super) fn gcd_with(&self, a: u64) -> u32
+        ensures value { result ≡ gcd_with self.now.modulus (taken (phase_meaning self.now.modulus) a) }
+        ensures low { 1 ≤ result }
+    {
+        Ones(self.operand(a)).fold(self.modulus, gcd)
+    }
+
+    // The multiples of g below the modulus: those below a multiple of g, and the same again from there on.
+    pub(super) fn multiples(&self, g: u32) -> u64
+        requires { 1 ≤ g }
+        ensures { result ≡ set_of self.now.modulus (divides g) }
+    {
+        let mut out = 1;
+        let mut span = g;
+        while span < self.modulus {
+            out |= out << span;
+            span *= 2;
+        }
+        out & self.mask()
+    }
 }

@@ -1,10 +1,9 @@
-use Rattle.std.proofs.Common.{◌≡◌, ℕ, ◌&&◌}
-use Rattle.algebras.specs.Phases.{divides}
+use Rattle.std.proofs.Common.{ℕ}
+use Rattle.std.specs.Int.{IsGcd}
 use Rattle.algebras.proofs.phase.sets.gcd.Given as goal
 
--- the common divisors stay the same
 abbrev pub invariant-loop-y : goal.invariant-loop-y
-invariant-loop-y l = (d : ℕ) → (divides d l.x && divides d l.y) ≡ (divides d l.a && divides d l.b)
+invariant-loop-y l = (g : ℕ) → IsGcd l.x l.y g → IsGcd l.a l.b g
 
 abbrev pub decreases-loop-y : goal.decreases-loop-y
 decreases-loop-y l = l.y

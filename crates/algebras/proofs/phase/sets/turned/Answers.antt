@@ -1,6 +1,0 @@
-use Rattle.std.proofs.Common.{arith}
-use Rattle.algebras.proofs.Turns.{turned-is}
-use Rattle.algebras.proofs.phase.sets.turned.Goals as goal
-
-pub returns : goal.returns
-returns c = let t = turned-is c.args.modulus c.args.b c.args.i (omega arith) (omega arith) (omega arith) in cc
