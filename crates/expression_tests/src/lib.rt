@@ -6,7 +6,7 @@ mod tests {
     use algebras::{Cost, Depth, Marking, Marks, Phase, Reach};
     use expressions::{Record, Step, Store, heads_sound, read, records_sound};
     use kleene::Algebra;
-    use refusals::{Buffer, Refusal};
+    use refusals::Refusal;
     use std::test::Fail;
 
     fn entry(kind: u32, left: u32, right: u32, next: u32) -> Record {
@@ -18,85 +18,30 @@ mod tests {
         }
     }
 
+    // Records by kind, left and right, of which each is alone in its chain.
+    macro_rules! table {
+        ($(($kind:literal, $left:literal, $right:literal)),*) => {
+            [$(Record { kind: $kind, left: $left, right: $right, next: 0 }),*]
+        };
+    }
+
     // Two formats, with step 0 from 0 to 1, step 1 from 1 to 0 and step 2 from 1 to itself: sealing makes the three steps,
     // then(3, 2), sum(4, 5) and repeat(6), and tracing from 0 adds then(2, 7), then(8, 3) and sum(1, 9).
-    const EXAMPLE: [Record; 11] = [
-        Record {
-            kind: 0,
-            left: 0,
-            right: 0,
-            next: 0,
-        },
-        Record {
-            kind: 1,
-            left: 0,
-            right: 0,
-            next: 0,
-        },
-        Record {
-            kind: 2,
-            left: 0,
-            right: 0,
-            next: 0,
-        },
-        Record {
-            kind: 2,
-            left: 1,
-            right: 0,
-            next: 0,
-        },
-        Record {
-            kind: 2,
-            left: 2,
-            right: 0,
-            next: 0,
-        },
-        Record {
-            kind: 4,
-            left: 3,
-            right: 2,
-            next: 0,
-        },
-        Record {
-            kind: 3,
-            left: 4,
-            right: 5,
-            next: 0,
-        },
-        Record {
-            kind: 5,
-            left: 6,
-            right: 0,
-            next: 0,
-        },
-        Record {
-            kind: 4,
-            left: 2,
-            right: 7,
-            next: 0,
-        },
-        Record {
-            kind: 4,
-            left: 8,
-            right: 3,
-            next: 0,
-        },
-        Record {
-            kind: 3,
-            left: 1,
-            right: 9,
-            next: 0,
-        },
+    const EXAMPLE: [Record; 11] = table![
+        (0, 0, 0),
+        (1, 0, 0),
+        (2, 0, 0),
+        (2, 1, 0),
+        (2, 2, 0),
+        (4, 3, 2),
+        (3, 4, 5),
+        (5, 6, 0),
+        (4, 2, 7),
+        (4, 8, 3),
+        (3, 1, 9)
     ];
 
     fn make_example(store: &mut Store) -> Result<u32, Refusal> {
-        if store.records.len() < 2 {
-            return Err(Refusal::TooShort(Buffer::Records));
-        }
-        if store.heads.len() < 1024 {
-            return Err(Refusal::TooShort(Buffer::Heads));
-        }
-        store.clear();
         let a = store.step(0)?;
         let b = store.step(1)?;
         let c = store.step(2)?;
@@ -113,16 +58,10 @@ mod tests {
         let blank = entry(9, 9, 9, 9);
         let mut records = [blank; 12];
         let mut heads = [9; 1025];
-        let mut store = Store {
-            records: &mut records,
-            heads: &mut heads,
-            count: 0,
-        };
+        let mut store = Store::cleared(&mut records, &mut heads);
         assert_eq!(rt; make_example(&mut store), Ok(10));
         assert_eq!(rt; store.count, 11);
-        for (got, wanted) in records.iter().zip(EXAMPLE.iter()) {
-            assert_eq!(rt; *got, *wanted);
-        }
+        assert_eq!(rt; &records[..11], EXAMPLE.as_slice());
         // what lies past the count and past the chains is unwritten
         assert_eq!(rt; records.last().copied(), Some(blank));
         assert_eq!(rt; heads.last().copied(), Some(9));
@@ -164,8 +103,7 @@ mod tests {
 
     #[test]
     fn sets_read_of_the_example(rt: HostRuntime) -> Result<(), Fail> {
-        let nothing = Marking::Zero;
-        let mut marks = [nothing; 11];
+        let mut marks = [None; 11];
         let weights = [
             pair(1, 0xfffffffffffffffe),
             pair(4, 0xfffffffffffffff9),
@@ -175,17 +113,14 @@ mod tests {
         assert_eq!(rt; marks[5], pair(5, 0xfffffffffffffff8));
         assert_eq!(rt; marks[7], pair(5, 0xfffffffffffffffa));
         assert_eq!(rt; marks[10], pair(5, 0xfffffffffffffffa));
-        let Ok(phase) = Phase::new(6) else {
-            return Err(Fail::new("modulus 6 was refused"));
-        };
         let mut phases = [77; 12];
-        read(&phase, &[4, 2, 1], &EXAMPLE, &mut phases);
+        read(&Phase::new(6)?, &[4, 2, 1], &EXAMPLE, &mut phases);
         assert_eq!(rt; phases, [0, 1, 4, 2, 1, 8, 9, 9, 36, 9, 9, 77]);
         Ok(())
     }
 
-    fn pair(sets: u64, passes: u64) -> Marking {
-        Marking::Pair { sets, passes }
+    fn pair(sets: u64, passes: u64) -> Option<Marking> {
+        Some(Marking { sets, passes })
     }
 
     // Steps 0 and 1,024 are in one chain: the later is its head, and both are found again.
@@ -193,12 +128,7 @@ mod tests {
     fn two_records_in_one_chain(rt: HostRuntime) {
         let mut records = [entry(9, 9, 9, 9); 4];
         let mut heads = [9; 1024];
-        let mut store = Store {
-            records: &mut records,
-            heads: &mut heads,
-            count: 0,
-        };
-        store.clear();
+        let mut store = Store::cleared(&mut records, &mut heads);
         assert_eq!(rt; store.step(0), Ok(2));
         assert_eq!(rt; store.step(1024), Ok(3));
         assert_eq!(rt; store.step(0), Ok(2));
@@ -214,18 +144,10 @@ mod tests {
     fn full_stores(rt: HostRuntime) {
         let mut records = [entry(9, 9, 9, 9); 11];
         let mut heads = [9; 1024];
-        let mut store = Store {
-            records: &mut records,
-            heads: &mut heads,
-            count: 0,
-        };
+        let mut store = Store::cleared(&mut records, &mut heads);
         assert_eq!(rt; make_example(&mut store), Ok(10));
         let mut fewer = [entry(9, 9, 9, 9); 10];
-        let mut store = Store {
-            records: &mut fewer,
-            heads: &mut heads,
-            count: 0,
-        };
+        let mut store = Store::cleared(&mut fewer, &mut heads);
         assert_eq!(rt; make_example(&mut store), Err(Refusal::StoreFull(10)));
         assert_eq!(rt; store.count, 10);
         assert_eq!(rt; fewer.last().copied(), Some(entry(4, 8, 3, 0)));

@@ -1,6 +1,6 @@
--- What a test of each element of a list tells of its elements, and how a loop takes the test. Assumes nothing.
-use Rattle.std.proofs.Common.{◌≡◌, ℕ, zero, suc, ◌+◌, ◌<◌, ◌≤◌, Bool, true, false, ◌&&◌, List, [], ◌∷◌, ◌++◌, length, get_or, drop, Decides, sym, refl, ap, ◌∙◌, add-zero, add-suc, suc-add, zero-add, add-one, arith}
-use Rattle.std.proofs.lemmas.List.{at_drop_more, at_drop_all}
+-- What a test of each element of a list tells of its elements. Assumes nothing.
+use Rattle.std.specs.List.{list_all, enumerate_from}
+use Rattle.std.proofs.Common.{◌≡◌, ℕ, zero, suc, ◌+◌, ◌<◌, Bool, true, ◌&&◌, List, [], ◌∷◌, ◌++◌, length, get_or, Decides, refl, ap, add-zero, add-suc, suc-add, zero-add, add-one, arith}
 use Rattle.std.proofs.lemmas.Bool.{and_parts, and_from}
 use Rattle.expressions.specs.Layout.{each}
 
@@ -38,22 +38,12 @@ module _ {X : Type 0} (test : ℕ → X → Bool) where
     λ all. at_each 0 xs d (λ i h. rw zero-add ((decides i _).1 (all i h))),
   )
 
-  -- a loop has passed the first i elements: what is left decides
-  abbrev pub Passed : List X → ℕ → Type 0
-  Passed xs i = each test 0 xs ≡ each test i (drop i xs)
+  -- a test of elements and places is one test of all pairs of a place and its element
+  pub each_is_all : (n : ℕ) (xs : List X) → each test n xs ≡ list_all (λ entry. test entry.0 entry.1) (enumerate_from n xs)
+  each_is_all n [] = refl
+  each_is_all n (x ∷ xs) = rw add-one (ap (λ rest. test n x && rest) (each_is_all (suc n) xs))
 
-  -- the next element, and what is left after it
-  passed_at : (xs : List X) (i : ℕ) (d : X) → i < length xs → Passed xs i → each test 0 xs ≡ (test i (get_or xs i d) && each test (i + 1) (drop (i + 1) xs))
-  passed_at xs i d h p = p ∙ at_drop_more (each test i) xs i d h ∙ ap (λ k. test i (get_or xs i d) && each test k (drop (i + 1) xs)) (sym (add-one i))
-
-  -- the next element passes
-  pub passed_more : (xs : List X) (i : ℕ) (d : X) → i < length xs → test i (get_or xs i d) ≡ true → Passed xs i → Passed xs (i + 1)
-  passed_more xs i d h e p = rw e at (passed_at xs i d h p)
-
-  -- the next element fails, and so does the whole
-  pub failed_at : (xs : List X) (i : ℕ) (d : X) → i < length xs → test i (get_or xs i d) ≡ false → Passed xs i → each test 0 xs ≡ false
-  failed_at xs i d h e p = rw e at (passed_at xs i d h p)
-
-  -- nothing is left, and the whole passes
-  pub passed_all : (xs : List X) (i : ℕ) → length xs ≤ i → Passed xs i → each test 0 xs ≡ true
-  passed_all xs i h p = p ∙ at_drop_all (each test i) xs i h
+-- a test that asks for no place is one test of all elements
+pub each_is_all_of : {X : Type 0} (test : X → Bool) (n : ℕ) (xs : List X) → each (λ _. test) n xs ≡ list_all test xs
+each_is_all_of test n [] = refl
+each_is_all_of test n (x ∷ xs) = ap (λ rest. test x && rest) (each_is_all_of test (suc n) xs)

@@ -1,10 +1,9 @@
 -- The value of a record comes from the values of its parts, and stays as records are added. Assumes nothing.
 use Rattle.std.proofs.Common.{◌≡◌, ℕ, ◌+◌, ◌<◌, ◌≤◌, true, List, [], ◌∷◌, ◌++◌, length, get_or, take, drop, fold, sym, refl, ap, ◌∙◌, arith}
 use Rattle.std.proofs.lemmas.List.{length_push, length-take, get_or_append_left, get_or_push, take-append-drop, take-take}
-use Rattle.std.proofs.lemmas.List.Sums.{fold_more}
+use Rattle.std.proofs.lemmas.List.Sums.{fold-append, fold_more}
 use Rattle.std.proofs.lemmas.Bool.Decides.{nat_tests}
 use Rattle.kleene.specs.Algebras.{Operations}
-use Rattle.kleene.proofs.Chains.{folded_append}
 use Rattle.expressions.specs.declared.Record.{Record}
 use Rattle.expressions.specs.Layout.{blank, well_formed}
 use Rattle.expressions.specs.Contents.{Contents, Sound, Grown, used}
@@ -33,7 +32,7 @@ module _ {S : Type 0} (o : Operations S) (step : ℕ → S) where
   front_keeps : (xs : List Record) (n k : ℕ) → n ≤ length xs → k < n → get_or (values o step xs) k o.zero ≡ get_or (values o step (take n xs)) k o.zero
   front_keeps xs n k h l =
       ap (λ rs. get_or (values o step rs) k o.zero) (sym (take-append-drop n xs)) ∙
-      ap (λ vs. get_or vs k o.zero) (folded_append more [] (take n xs) (drop n xs)) ∙
+      ap (λ vs. get_or vs k o.zero) (fold-append more [] (take n xs) (drop n xs)) ∙
       more_keeps (values o step (take n xs)) (drop n xs) k (simp (length-values, length-take) (omega arith))
 
   -- the value of a record, from the values of those before it

@@ -1,12 +1,14 @@
 -- Stores stay sound: a cleared one, and one in which an expression is made. Assumes nothing.
-use Rattle.std.proofs.Common.{◌≡◌, ℕ, ◌+◌, ◌<◌, ◌≤◌, Bool, true, ltb, ◌≢◌, List, [], ◌∷◌, ◌++◌, length, get_or, take, drop, set, replicate, Some, sym, refl, ap, ◌∙◌, subst, ⊎_elim, arith}
+use Rattle.std.proofs.Common.{◌≡◌, ℕ, ◌+◌, ◌<◌, ◌≤◌, Bool, true, ltb, ◌≢◌, List, [], ◌∷◌, length, get_or, take, drop, set, Some, sym, refl, ap, subst, ⊎_elim, arith}
 use Rattle.std.proofs.lemmas.Bool.{cond_both, or_right, lt-ltb, ltb-true, cases_eq}
-use Rattle.std.proofs.lemmas.List.{append_assoc, length-set, length-take, length-append, length-replicate, get_or-take, get_or-set_same, get_or-set_other, get_or_default, take_more_set, take-set, drop_more, set_at, replicate_more}
+use Rattle.std.proofs.lemmas.List.{length-set, length-take, length-append, length-replicate, get_or-take, get_or-set_same, get_or-set_other, take_more_set, take-set}
 use Rattle.std.proofs.lemmas.Bool.Decides.{nat_tests}
 use Rattle.refusals.specs.Refused.{Outcome, done, refused}
 use Rattle.expressions.specs.declared.Record.{Record}
-use Rattle.expressions.specs.Layout.{blank, well_formed, linked, each}
+use Rattle.expressions.specs.declared.store.Store.{Store}
+use Rattle.expressions.specs.Layout.{blank, well_formed, linked, each, heads_sound}
 use Rattle.expressions.specs.Contents.{Contents, Sound, Grown, used, limit, chain_of, cleared}
+use Rattle.expressions.specs.Stores.{contents}
 use Rattle.expressions.specs.Making.{find, Fits, appended, made, Is}
 use Rattle.expressions.proofs.Eaches.{at_each, each_push}
 use Rattle.expressions.proofs.Walks.{used-length, head_below, found_is}
@@ -17,16 +19,60 @@ begun [] a b h = absurd (omega arith)
 begun (x ∷ []) a b h = absurd (omega arith)
 begun (x ∷ y ∷ xs) a b h = refl
 
--- one more chain is emptied
-pub emptied : (xs : List ℕ) (i : ℕ) → i < length xs → set (replicate i 0 ++ drop i xs) i 0 ≡ replicate (i + 1) 0 ++ drop (i + 1) xs
-emptied xs i h =
-    let zeros : List ℕ = replicate i 0 in
-    let rest = drop (i + 1) xs in
-    rw (drop_more xs i 0) (set_at zeros _ rest 0 i (length-replicate i 0) ∙ sym (append_assoc zeros (0 ∷ []) rest) ∙ ap (λ zs. zs ++ rest) (replicate_more i 0))
+-- every head is below the count, where each of the first 1,024 is
+heads_from : (heads : List ℕ) (count : ℕ) → ((k : ℕ) → k < 1024 → get_or heads k 0 < count) → heads_sound count (take 1024 heads) ≡ true
+heads_from heads count below =
+    at_each (λ _ head. ltb head count) 0 (take 1024 heads) 0
+    (λ k h. let small : k < 1024 = omega (arith, length-take 1024 heads) in rw get_or-take (lt-ltb _ _ (below k small)))
 
 pub cleared-sound : (c : Contents) → 2 ≤ length c.records → 1024 ≤ length c.heads → Sound (cleared c)
 cleared-sound c r h =
     record { begun = omega arith; room = omega arith; chains = simp (length-append, length-replicate) (omega arith); formed = refl; linked = refl; headed = refl }
+
+-- what is known of every store
+pub sound : (s : Store) → Sound (contents s)
+sound s = record { begun = s.begun; room = s.room; chains = s.chains; formed = s.formed; linked = s.chained; headed = s.headed }
+
+module _ {c : Contents} (sound : Sound c) where
+  -- with one record more, which is on no chain yet, it stays sound
+  pub pushed-sound :
+      (kind left right number at : ℕ) → Fits c kind left right → c.count < limit c → number ≡ kind → at ≡ chain_of kind left right →
+      Sound (record {
+        records = set c.records c.count (record { kind = number; left = left; right = right; next = get_or c.heads at 0 });
+        heads = c.heads;
+        count = c.count + 1;
+      })
+  pushed-sound kind left right number at fit room of chain =
+      let new : Record = record { kind = number; left = left; right = right; next = get_or c.heads at 0 } in
+      let head = head_below sound at (omega arith) in
+      let formed : well_formed c.count new ≡ true = grind (arith, nat_tests) in
+      let chained : linked c.count new ≡ true = or_right _ _ (lt-ltb _ _ head) in
+      let each-more : (test : ℕ → Record → Bool) → each test 0 (used c) ≡ true → test c.count new ≡ true → each test 0 (take (c.count + 1) (set c.records c.count new)) ≡ true =
+      λ test all here. subst (λ rs. each test 0 rs ≡ true) (sym (take_more_set c.records c.count new (omega arith)))
+      (each_push test (used c) new all (rw (used-length sound) here)) in
+      record {
+        begun = omega arith;
+        room = simp length-set (omega arith);
+        chains = sound.chains;
+        formed = each-more well_formed sound.formed formed;
+        linked = each-more linked sound.linked chained;
+        headed = heads_from c.heads (c.count + 1) (λ k h. omega (arith, head_below sound k h));
+      }
+
+  -- with another record in use at the head of a chain, too
+  pub headed-sound : (at head : ℕ) → head < c.count → Sound (record { records = c.records; heads = set c.heads at head; count = c.count })
+  headed-sound at head h = record {
+    begun = sound.begun;
+    room = sound.room;
+    chains = simp length-set (omega arith);
+    formed = sound.formed;
+    linked = sound.linked;
+    headed = heads_from (set c.heads at head) c.count (λ k small.
+        let below = head_below sound k small in
+        ⊎_elim (λ (e : k ≡ at). subst (λ i. get_or (set c.heads i head) k 0 < c.count) e (let room : k < length c.heads = omega arith in rw get_or-set_same h))
+        (λ (n : k ≢ at). rw get_or-set_other below)
+        (cases_eq k at));
+  }
 
 -- what comes of making an expression: the store is sound, has only grown, and the answer is the expression
 pub record Gives (c : Contents) (kind left right : ℕ) (o : Outcome ℕ × Contents) : Type 0 where
@@ -51,36 +97,9 @@ module _ {c : Contents} (sound : Sound c) (kind left right : ℕ) where
         let e = get_or-set_same c.records c.count new blank (omega arith) in
         record { in_use = omega arith; of_kind = ap (λ r. r.kind) e; on-left = ap (λ r. r.left) e; on-right = ap (λ r. r.right) e }
 
-    -- what passes at the records in use and at the new one
-    appended-each : (test : ℕ → Record → Bool) → each test 0 (used c) ≡ true → test c.count new ≡ true → each test 0 (used (appended c kind left right)) ≡ true
-    appended-each test all here =
-        subst (λ rs. each test 0 rs ≡ true) (sym (take_more_set c.records c.count new (omega arith)))
-        (each_push test (used c) new all (rw (used-length sound) here))
-
-    -- a head is the new record, or one from before
-    appended_head : (k d : ℕ) → k < 1024 → get_or (set c.heads (chain_of kind left right) c.count) k d < c.count + 1
-    appended_head k d h =
-        let at = chain_of kind left right in
-        let small : k < length c.heads = omega arith in
-        let below = head_below sound k h in
-        ⊎_elim (λ (e : k ≡ at). subst (λ i. get_or (set c.heads i c.count) k d < c.count + 1) e (rw get_or-set_same (omega arith)))
-        (λ (n : k ≢ at). rw (get_or-set_other, get_or_default c.heads k d 0) (omega arith))
-        (cases_eq k at)
-
     appended-sound : Fits c kind left right → Sound (appended c kind left right)
     appended-sound fit =
-        let heads = set c.heads (chain_of kind left right) c.count in
-        let formed : well_formed c.count new ≡ true = grind (arith, nat_tests) in
-        record {
-          begun = omega arith;
-          room = simp length-set (omega arith);
-          chains = simp length-set (omega arith);
-          formed = appended-each well_formed sound.formed formed;
-          linked = appended-each linked sound.linked (or_right _ _ (lt-ltb _ _ (head_below sound (chain_of kind left right) (omega arith))));
-          headed =
-              at_each (λ _ head. ltb head (c.count + 1)) 0 (take 1024 heads) 0
-              (λ k h. let small : k < 1024 = omega (arith, length-take 1024 heads) in rw get_or-take (lt-ltb _ _ (appended_head k 0 small)));
-        }
+        headed-sound (pushed-sound sound kind left right kind (chain_of kind left right) fit room refl refl) (chain_of kind left right) c.count (omega arith)
 
   made_gives : Fits c kind left right → Gives c kind left right (made c kind left right)
   made_gives fit =

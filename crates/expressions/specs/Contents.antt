@@ -1,7 +1,6 @@
 -- The contents of a store: its records, the heads of its chains, and how many records are in use. Assumes nothing.
 use Rattle.std.specs.Prelude.{◌≡◌, ℕ, ◌+◌, ◌*◌, ◌%◌, ◌≤◌, min, true, List, ◌∷◌, ◌++◌, length, take, drop, replicate}
 use Rattle.expressions.specs.declared.Record.{Record}
-use Rattle.expressions.specs.declared.store.Store.{Store}
 use Rattle.expressions.specs.Layout.{well_formed, linked, each, heads_sound}
 
 -- the lent buffers, and the count of records in use
@@ -9,9 +8,6 @@ pub record Contents : Type 0 where
   pub records : List Record
   pub heads : List ℕ
   pub count : ℕ
-
-abbrev pub contents : Store → Contents
-contents s = record { records = s.records.now; heads = s.heads.now; count = s.count }
 
 -- the records that a store may use: those of the buffer, and at most 131,072
 abbrev pub limit : Contents → ℕ
@@ -48,8 +44,3 @@ pub record Grown (c d : Contents) : Type 0 where
   pub records : length d.records ≡ length c.records
   pub heads : length d.heads ≡ length c.heads
   pub lower : used c ≡ take c.count d.records
-
--- the two buffers that a store works on are those that were lent to it
-pub record Lent (s t : Store) : Type 0 where
-  pub records : s.records.ghost_name ≡ t.records.ghost_name
-  pub heads : s.heads.ghost_name ≡ t.heads.ghost_name

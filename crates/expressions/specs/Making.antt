@@ -21,6 +21,10 @@ walk (suc bound) records kind left right i =
 abbrev pub find : Contents → ℕ → ℕ → ℕ → ℕ
 find c kind left right = let head = slice_index_or c.heads (chain_of kind left right) 0 in walk head c.records kind left right head
 
+-- the record at which a walk of a chain ended: 0 is the end of the chain, and no record on it
+abbrev pub on_chain : ℕ → Option ℕ
+on_chain i = cond (nat_lt 0 i) (Some i) None
+
 -- a new record takes the next number, its next is the head of its chain, and it becomes the head
 abbrev pub appended : Contents → ℕ → ℕ → ℕ → Contents
 appended c kind left right = record {

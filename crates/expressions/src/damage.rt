@@ -2,16 +2,13 @@
 ghost use Rattle.std.specs.Prelude.{◌≡◌, Decides};
 ghost use Rattle.expressions.specs.Layout.{in_force, well_formed, linked, names_in_force, record_sound, records_sound, heads_sound, SoundRecords, SoundHeads};
 
-use crate::{REPEAT_KIND, Record, STEP_KIND, SUM_KIND, Step, THEN_KIND};
+use crate::{Kind, Record, Step};
 
 // Whether step j was added and is in force.
 fn in_force(steps: &[Step], j: u32) -> bool
     ensures { result ≡ in_force steps.now j }
 {
-    match steps.get(j as usize) {
-        Some(step) => step.in_force,
-        None => false,
-    }
+    steps.get(j as usize).is_some_and(|step| step.in_force)
 }
 
 // Whether the kind, left and right of record i keep the layout.
@@ -23,11 +20,11 @@ fn well_formed(i: usize, entry: Record) -> bool
     if i < 2 {
         return entry.kind as usize == i && left == 0 && right == 0;
     }
-    match entry.kind {
-        STEP_KIND => right == 0,
-        SUM_KIND | THEN_KIND => left < i && right < i,
-        REPEAT_KIND => left < i && right == 0,
-        _ => false,
+    match Kind::try_from(entry.kind) {
+        Ok(Kind::Step) => right == 0,
+        Ok(Kind::Sum | Kind::Then) => left < i && right < i,
+        Ok(Kind::Repeat) => left < i && right == 0,
+        Ok(Kind::Nothing | Kind::Stay) | Err(_) => false,
     }
 }
 
@@ -43,7 +40,7 @@ fn linked(i: usize, entry: Record) -> bool
 fn names_in_force(steps: &[Step], entry: Record) -> bool
     ensures { result ≡ names_in_force steps.now entry }
 {
-    entry.kind != STEP_KIND || in_force(steps, entry.left)
+    entry.kind != Kind::Step.number() || in_force(steps, entry.left)
 }
 
 // Whether record i is as it should be.
@@ -58,12 +55,10 @@ pub fn records_sound(steps: &[Step], records: &[Record]) -> bool
     ensures value { result ≡ records_sound steps.now records.now }
     ensures exact { Decides result (SoundRecords steps.now records.now) }
 {
-    for (i, record) in records.iter().enumerate() {
-        if !record_sound(steps, i, *record) {
-            return false;
-        }
-    }
-    true
+    records
+        .iter()
+        .enumerate()
+        .all(|(i, record)| record_sound(steps, i, *record))
 }
 
 // Whether every head is below the count of records.
@@ -71,10 +66,5 @@ pub fn heads_sound(count: usize, heads: &[u32]) -> bool
     ensures value { result ≡ heads_sound count heads.now }
     ensures exact { Decides result (SoundHeads count heads.now) }
 {
-    for head in heads {
-        if *head as usize >= count {
-            return false;
-        }
-    }
-    true
+    heads.iter().all(|head| (*head as usize) < count)
 }

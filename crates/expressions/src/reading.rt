@@ -4,7 +4,7 @@ ghost use Rattle.kleene.specs.Algebras.{everywhere};
 ghost use Rattle.expressions.specs.Layout.{each, well_formed};
 ghost use Rattle.expressions.specs.Meanings.{value_of, values, Readable, names_below};
 
-use crate::{REPEAT_KIND, Record, STAY, STEP_KIND, SUM_KIND, THEN_KIND};
+use crate::{Kind, Record};
 use kleene::Algebra;
 
 // The value of one record, from the values of the records before it.
@@ -17,13 +17,14 @@ fn value<A: Algebra>(
     requires { Readable (length weights.now) (length memo.now) entry }
     ensures { result ≡ value_of (everywhere (A.meaning algebra.now)) (λ j. slice_index_or weights.now j (everywhere (A.meaning algebra.now)).zero) memo.now entry }
 {
-    match entry.kind {
-        STAY => algebra.one(),
-        STEP_KIND => weights[entry.left as usize],
-        SUM_KIND => algebra.sum(memo[entry.left as usize], memo[entry.right as usize]),
-        THEN_KIND => algebra.product(memo[entry.left as usize], memo[entry.right as usize]),
-        REPEAT_KIND => algebra.star(memo[entry.left as usize]),
-        _ => algebra.zero(),
+    let (left, right) = (entry.left as usize, entry.right as usize);
+    match Kind::try_from(entry.kind) {
+        Ok(Kind::Stay) => algebra.one(),
+        Ok(Kind::Step) => weights[left],
+        Ok(Kind::Sum) => algebra.sum(memo[left], memo[right]),
+        Ok(Kind::Then) => algebra.product(memo[left], memo[right]),
+        Ok(Kind::Repeat) => algebra.star(memo[left]),
+        Ok(Kind::Nothing) | Err(_) => algebra.zero(),
     }
 }
 

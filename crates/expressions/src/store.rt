@@ -1,31 +1,34 @@
 // The store, in which an expression is made once and then found again.
-ghost use Rattle.std.specs.Prelude.{◌≡◌, ℕ, ◌<◌, ◌≤◌, length, IfSome, IfOk};
-ghost use Rattle.refusals.specs.Refused.{Outcome, outcome};
-ghost use Rattle.expressions.specs.Contents.{Contents, contents, Sound, Grown, Lent, limit, cleared, chain_of};
-ghost use Rattle.expressions.specs.Making.{find, Fits, appended, made, step_made, sum_made, then_made, repeat_made, Is, RuledIs, sum_rule, then_rule, repeat_rule};
+ghost use Rattle.std.specs.Prelude.{◌≡◌, ℕ, ◌<◌, ◌≤◌, true, min, length, take, IfSome, IfOk};
+ghost use Rattle.expressions.specs.Contents.{limit, cleared, chain_of};
+ghost use Rattle.expressions.specs.Kinds.{number_of};
+ghost use Rattle.expressions.specs.Layout.{each, well_formed, linked, heads_sound};
+ghost use Rattle.expressions.specs.Making.{find, on_chain, Fits, appended, made, step_made, sum_made, then_made, repeat_made, Is, RuledIs, sum_rule, then_rule, repeat_rule};
 
-use crate::{NOTHING, REPEAT_KIND, Record, STAY, STEP_KIND, SUM_KIND, THEN_KIND};
+use crate::{CHAINS, Kind, MOST_RECORDS, NOTHING, Record, STAY};
 use refusals::Refusal;
 
-// The chains by which equal records are found.
-const CHAINS: usize = 1024;
-
-// The most records that a store uses.
-const MOST: usize = 131072;
-
-// Lent buffers, and how many records are in use.
+// A store in lent buffers, of whose records so many are in use: the lent slice is longer, and the store grows in it. What is in
+// use, and every head, is laid out as it should be. An expression is the number of its record, and is asked to be in use, as an
+// index is asked to be inside.
 #[derive(Drop)]
 pub struct Store<'a> {
     pub records: &'a mut [Record],
     pub heads: &'a mut [u32],
     pub count: usize,
+    pub ghost begun: { 2 ≤ count },
+    pub ghost room: { count ≤ min (length records.now) 131072 },
+    pub ghost chains: { 1024 ≤ length heads.now },
+    pub ghost formed: { each well_formed 0 (take count records.now) ≡ true },
+    pub ghost chained: { each linked 0 (take count records.now) ≡ true },
+    pub ghost headed: { heads_sound count (take 1024 heads.now) ≡ true },
 }
 
 // The chain on which a record of this kind, left and right is found.
-fn chain(kind: u32, left: u32, right: u32) -> usize
-    ensures { result ≡ chain_of kind left right }
+fn chain(kind: Kind, left: u32, right: u32) -> usize
+    ensures { result ≡ chain_of (number_of kind) left right }
 {
-    (31 * left as usize + 17 * right as usize + kind as usize) % CHAINS
+    (31 * left as usize + 17 * right as usize + kind.number() as usize) % CHAINS
 }
 
 // What the simplifying rules say of a sum.
@@ -74,89 +77,93 @@ fn repeat_rule(x: u32) -> Option<u32>
     }
 }
 
-impl Store<'_> {
-    // Writes nothing and stay, and empties every chain.
-    pub fn clear(&mut self)
-        requires records { 2 ≤ length self.old.records.now }
-        requires heads { 1024 ≤ length self.old.heads.now }
-        ensures cleared { contents self.new ≡ cleared (contents self.old) }
-        ensures sound { Sound (contents self.new) }
-        ensures lent { Lent self.new self.old }
+// Writes nothing and stay, and empties every chain.
+fn clear(records: &mut [Record], heads: &mut [u32])
+    requires records { 2 ≤ length records.old }
+    requires heads { 1024 ≤ length heads.old }
+    ensures { record { records = records.new; heads = heads.new; count = 2 } ≡ cleared (record { records = records.old; heads = heads.old; count = 0 }) }
+{
+    records[0] = Record {
+        kind: Kind::Nothing.number(),
+        ..Record::default()
+    };
+    records[1] = Record {
+        kind: Kind::Stay.number(),
+        ..Record::default()
+    };
+    heads[..CHAINS].fill(0);
+}
+
+impl<'a> Store<'a> {
+    ghost use Rattle.expressions.specs.Stores.{contents, came_of, Lent, Extends};
+
+    // A store with nothing and stay alone, in buffers that may hold anything.
+    pub fn cleared(records: &'a mut [Record], heads: &'a mut [u32]) -> Store<'a>
+        requires records { 2 ≤ length records.old }
+        requires heads { 1024 ≤ length heads.old }
+        ensures cleared { contents result ≡ cleared (record { records = records.old; heads = heads.old; count = 0 }) }
+        ensures records { result.records.ghost_name ≡ records.entry.ghost_name }
+        ensures heads { result.heads.ghost_name ≡ heads.entry.ghost_name }
     {
-        self.records[0] = Record {
-            kind: NOTHING,
-            left: 0,
-            right: 0,
-            next: 0,
-        };
-        self.records[1] = Record {
-            kind: STAY,
-            left: 0,
-            right: 0,
-            next: 0,
-        };
-        for i in 0..CHAINS {
-            self.heads[i] = 0;
+        clear(records, heads);
+        Store {
+            records,
+            heads,
+            count: 2,
         }
-        self.count = 2;
     }
 
     // The records that the store may use.
     fn limit(&self) -> usize
         ensures { result ≡ limit (contents self.now) }
     {
-        self.records.len().min(MOST)
+        self.records.len().min(MOST_RECORDS)
     }
 
-    // The first record of its chain with this kind, left and right, or 0.
-    fn find(&self, kind: u32, left: u32, right: u32) -> u32
-        requires { Sound (contents self.now) }
-        ensures { result ≡ find (contents self.now) kind left right }
+    // The first record of its chain with this kind, left and right. Chains are numbers in lent records: that is their layout.
+    fn find(&self, kind: Kind, left: u32, right: u32) -> Option<u32>
+        ensures { result ≡ on_chain (find (contents self.now) (number_of kind) left right) }
     {
         let mut at = self.heads[chain(kind, left, right)];
         while at != 0 {
             let record = self.records[at as usize];
-            if record.kind == kind && record.left == left && record.right == right {
-                break;
+            if record.kind == kind.number() && record.left == left && record.right == right {
+                return Some(at);
             }
             at = record.next;
         }
-        at
+        None
     }
 
     // A new record, which becomes the head of its chain.
-    fn append(&mut self, kind: u32, left: u32, right: u32) -> u32
-        requires sound { Sound (contents self.old) }
+    fn append(&mut self, kind: Kind, left: u32, right: u32) -> u32
+        requires fitting { Fits (contents self.old) (number_of kind) left right }
         requires room { self.old.count < limit (contents self.old) }
         ensures value { result ≡ self.old.count }
-        ensures after { contents self.new ≡ appended (contents self.old) kind left right }
+        ensures after { contents self.new ≡ appended (contents self.old) (number_of kind) left right }
         ensures lent { Lent self.new self.old }
     {
         let at = chain(kind, left, right);
         let new = self.count as u32;
         self.records[self.count] = Record {
-            kind,
+            kind: kind.number(),
             left,
             right,
             next: self.heads[at],
         };
-        self.heads[at] = new;
         self.count += 1;
+        self.heads[at] = new;
         new
     }
 
     // The record that is there already, or a new one.
-    fn make(&mut self, kind: u32, left: u32, right: u32) -> Result<u32, Refusal>
-        requires sound { Sound (contents self.old) }
-        requires fitting { Fits (contents self.old) kind left right }
-        ensures made { ◌≡◌ {A = Outcome ℕ × Contents} (outcome (λ x. x) result, contents self.new) (made (contents self.old) kind left right) }
-        ensures answer { IfOk result (λ z. Is (contents self.new) kind left right z) }
-        ensures grown { Grown (contents self.old) (contents self.new) }
-        ensures sound { Sound (contents self.new) }
-        ensures lent { Lent self.new self.old }
+    fn make(&mut self, kind: Kind, left: u32, right: u32) -> Result<u32, Refusal>
+        requires { Fits (contents self.old) (number_of kind) left right }
+        ensures made { came_of result self.new ≡ made (contents self.old) (number_of kind) left right }
+        ensures answer { IfOk result (λ z. Is (contents self.new) (number_of kind) left right z) }
+        ensures kept { Extends self.old self.new }
     {
-        let found = self.find(kind, left, right);
-        if found != 0 {
+        if let Some(found) = self.find(kind, left, right) {
             return Ok(found);
         }
         let limit = self.limit();
@@ -169,67 +176,55 @@ impl Store<'_> {
 
     // Step j.
     pub fn step(&mut self, j: u32) -> Result<u32, Refusal>
-        requires { Sound (contents self.old) }
-        ensures made { ◌≡◌ {A = Outcome ℕ × Contents} (outcome (λ x. x) result, contents self.new) (step_made (contents self.old) j) }
+        ensures made { came_of result self.new ≡ step_made (contents self.old) j }
         ensures answer { IfOk result (λ z. Is (contents self.new) 2 j 0 z) }
         ensures used { IfOk result (λ z. z < self.new.count) }
-        ensures grown { Grown (contents self.old) (contents self.new) }
-        ensures sound { Sound (contents self.new) }
-        ensures lent { Lent self.new self.old }
+        ensures kept { Extends self.old self.new }
     {
-        self.make(STEP_KIND, j, 0)
+        self.make(Kind::Step, j, 0)
     }
 
     // x or y.
     pub fn sum(&mut self, x: u32, y: u32) -> Result<u32, Refusal>
-        requires sound { Sound (contents self.old) }
         requires left { x < self.old.count }
         requires right { y < self.old.count }
-        ensures made { ◌≡◌ {A = Outcome ℕ × Contents} (outcome (λ x. x) result, contents self.new) (sum_made (contents self.old) x y) }
+        ensures made { came_of result self.new ≡ sum_made (contents self.old) x y }
         ensures answer { IfOk result (λ z. RuledIs (contents self.new) (sum_rule x y) 3 x y z) }
         ensures used { IfOk result (λ z. z < self.new.count) }
-        ensures grown { Grown (contents self.old) (contents self.new) }
-        ensures sound { Sound (contents self.new) }
-        ensures lent { Lent self.new self.old }
+        ensures kept { Extends self.old self.new }
     {
         match sum_rule(x, y) {
             Some(simpler) => Ok(simpler),
-            None => self.make(SUM_KIND, x, y),
+            None => self.make(Kind::Sum, x, y),
         }
     }
 
     // x, and then y.
     pub fn then(&mut self, x: u32, y: u32) -> Result<u32, Refusal>
-        requires sound { Sound (contents self.old) }
         requires left { x < self.old.count }
         requires right { y < self.old.count }
-        ensures made { ◌≡◌ {A = Outcome ℕ × Contents} (outcome (λ x. x) result, contents self.new) (then_made (contents self.old) x y) }
+        ensures made { came_of result self.new ≡ then_made (contents self.old) x y }
         ensures answer { IfOk result (λ z. RuledIs (contents self.new) (then_rule x y) 4 x y z) }
         ensures used { IfOk result (λ z. z < self.new.count) }
-        ensures grown { Grown (contents self.old) (contents self.new) }
-        ensures sound { Sound (contents self.new) }
-        ensures lent { Lent self.new self.old }
+        ensures kept { Extends self.old self.new }
     {
         match then_rule(x, y) {
             Some(simpler) => Ok(simpler),
-            None => self.make(THEN_KIND, x, y),
+            None => self.make(Kind::Then, x, y),
         }
     }
 
     // x any number of times, also none.
     pub fn repeat(&mut self, x: u32) -> Result<u32, Refusal>
-        requires sound { Sound (contents self.old) }
         requires part { x < self.old.count }
-        ensures made { ◌≡◌ {A = Outcome ℕ × Contents} (outcome (λ x. x) result, contents self.new) (repeat_made (contents self.old) x) }
+        ensures made { came_of result self.new ≡ repeat_made (contents self.old) x }
         ensures answer { IfOk result (λ z. RuledIs (contents self.new) (repeat_rule x) 5 x 0 z) }
         ensures used { IfOk result (λ z. z < self.new.count) }
-        ensures grown { Grown (contents self.old) (contents self.new) }
-        ensures sound { Sound (contents self.new) }
-        ensures lent { Lent self.new self.old }
+        ensures kept { Extends self.old self.new }
     {
         match repeat_rule(x) {
             Some(simpler) => Ok(simpler),
-            None => self.make(REPEAT_KIND, x, 0),
+            None => self.make(Kind::Repeat, x, 0),
         }
     }
 }
