@@ -2,7 +2,7 @@
 -- row or the table still fits the store. Assumes nothing.
 use Rattle.std.proofs.Common.{◌≡◌, ℕ, ◌<◌, ◌≤◌, Bool, true, false, cond, eqb, List, length, get_or, set, replicate, sym, refl, ap, ◌∙◌, subst, inl, inr, arith}
 use mathlib.Core.Path.{fun_ext}
-use Rattle.std.proofs.lemmas.List.{get_or-set_same, get_or-set_other, get_or-replicate, get_or_past, length-set}
+use Rattle.std.proofs.lemmas.List.{get_or-set_same, get_or-set_other, get_or-replicate, get_or_past, length-replicate, length-set}
 use Rattle.std.proofs.lemmas.Bool.{eqb-true, eqb-false, cond_both, cases_lt}
 use Rattle.elimination.specs.Moves.{put}
 use Rattle.planning.specs.declared.rows.Row.{Row}
@@ -74,3 +74,17 @@ module _ (r : Row) (e : r ≡ record { at = replicate 32 0 }) where
 
   pub empty-fits : (count : ℕ) → 0 < count → RowFits count r
   empty-fits count some = record { places = ap (λ s. length s.at) e; in_use = λ w. rw empty-at some }
+
+-- an empty table
+module _ (r : Row) (e : r ≡ record { at = replicate 32 0 }) where
+  pub empty-table-fits : (count : ℕ) → 0 < count → TableFits count (replicate 32 r)
+  empty-table-fits count some = record {
+    places = length-replicate 32 r;
+    each = λ u h. subst (RowFits count) (sym (get_or-replicate 32 u r no_row h)) (empty-fits r e count some);
+  }
+
+  pub empty-table : table_of (replicate 32 r) ≡ (λ _ _. 0)
+  empty-table = fun_ext (λ u. fun_ext (λ w. elim (cases_lt u 32) [
+    | inl l ↦ ap (λ s. row_of s w) (get_or-replicate 32 u r no_row l) ∙ empty-at r e w
+    | inr l ↦ ap (λ s. row_of s w) (get_or_past (replicate 32 r) u no_row l)
+  ]))

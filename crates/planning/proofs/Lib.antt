@@ -1,3 +1,4 @@
+pub mod Arrays
 pub mod Bits
 pub mod Drawing
 pub mod Entries
@@ -5,7 +6,9 @@ pub mod Leading
 pub mod Listings
 pub mod Loads
 pub mod Lowest
-pub mod MaskRows
+pub mod Numbering
 pub mod Orders
 pub mod Picks
+pub mod Relations
 pub mod Runs
+pub mod Tables

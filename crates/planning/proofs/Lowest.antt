@@ -1,5 +1,5 @@
 -- The lowest number that passes a test, and how many pass it. Assumes nothing.
-use Rattle.std.proofs.Common.{◌≡◌, ℕ, zero, suc, ◌+◌, ◌<◌, ◌≤◌, Bool, true, false, cond, Decides, refl, ap, ◌∙◌, ⊎_elim, arith}
+use Rattle.std.proofs.Common.{◌≡◌, ℕ, zero, suc, ◌+◌, ◌<◌, ◌≤◌, Bool, true, false, cond, Option, Some, None, MatchOption, Decides, sym, refl, ap, ◌∙◌, ⊎_elim, arith}
 use Rattle.std.proofs.lemmas.Bool.{cases_Bool, cases_eq, cases_lt, both_ways, and_cases}
 use Rattle.std.proofs.lemmas.Bool.Decides.{Decides-below_and}
 use Rattle.planning.specs.Components.{lowest, every}
@@ -36,6 +36,13 @@ module _ (n : ℕ) (test : ℕ → Bool) where
   lowest_is k small passes none =
       let under = lowest-under n test k passes in
       ⊎_elim (λ h. absurd (both_ways _ (none _ h) (lowest-passes n test (omega arith)))) (λ h. omega arith) (cases_lt (lowest n test) k)
+
+-- what a search over the numbers below n finds
+pub lowest_found : (n : ℕ) (test : ℕ → Bool) (r : Option ℕ) →
+    MatchOption r ((k : ℕ) → 0 ≤ k → k < n → test k ≡ false) (λ w. (0 ≤ w) × (w < n) × (test w ≡ true) × ((k : ℕ) → 0 ≤ k → k < w → test k ≡ false)) →
+    MatchOption r (lowest n test ≡ n) (λ w. (w < n) × (w ≡ lowest n test))
+lowest_found n test None none = lowest_none n test (λ i h. none i (omega arith) h)
+lowest_found n test (Some w) (first, low, passes, before) = (low, sym (lowest_is n test w low passes (λ i h. before i (omega arith) h)))
 
 pub decides_every : (n : ℕ) (test : ℕ → Bool) → Decides (every n test) ((k : ℕ) → k < n → test k ≡ true)
 decides_every n test = Decides-below_and test (λ k. test k ≡ true) (λ m. every m test) (λ k. (λ e. e, λ e. e)) refl (λ _. refl) n

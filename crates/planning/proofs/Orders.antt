@@ -1,13 +1,14 @@
 -- How the formats are listed, component by component, and how the places of an order are filled and read. Assumes nothing.
-use Rattle.std.proofs.Common.{◌≡◌, ℕ, zero, suc, ◌+◌, ◌-◌, ◌<◌, ◌≤◌, Bool, true, cond, eqb, ltb, ◌≢◌, List, [], ◌∷◌, ◌++◌, length, get_or, take, drop, set, replicate, sym, refl, ap, ◌∙◌, subst, inl, inr, append_assoc, append-nil, add-one, arith}
+use Rattle.std.proofs.Common.{◌≡◌, ℕ, zero, suc, ◌+◌, ◌<◌, ◌≤◌, Bool, true, cond, eqb, ltb, ◌≢◌, List, [], ◌∷◌, ◌++◌, length, drop, sym, refl, ap, ◌∙◌, subst, inl, inr, append_assoc, append-nil, add-one, arith}
 use Rattle.std.specs.List.{AllByRecursion as All}
 use Rattle.std.proofs.ByRecursion.{All-weaker, All-get_or, All-from_get_or}
-use Rattle.std.proofs.lemmas.List.{length-append, length_push, length-set, set_at, at_drop_more, at_drop_all, length-drop, get_or-drop, get_or_past, drop-drop, drop_at}
+use Rattle.std.proofs.lemmas.List.{length-append, at_drop_more, length-drop, get_or-drop, get_or_past, drop-drop, drop_at}
+use Rattle.std.proofs.lemmas.List.Sums.{take_while-cons}
 use Rattle.std.proofs.lemmas.Bool.{cond_both, cond-true, cond-false, cases_lt, lt-ltb, eqb-true, eq-eqb, ne_eqb}
 use Rattle.std.proofs.lemmas.Bool.Decides.{nat_tests}
 use Rattle.elimination.specs.Moves.{keep, below, for_each}
 use Rattle.elimination.proofs.Schedules.{every, all-below, all_keep, all-for_each}
-use Rattle.planning.specs.Orders.{members_of, in_order, padded, front}
+use Rattle.planning.specs.Orders.{members_of, in_order, front}
 use Rattle.planning.specs.Tables.{Places}
 use Rattle.planning.proofs.Loads.{length-below, below_at}
 
@@ -46,13 +47,6 @@ module _ (test : ℕ → Bool) where
   keep_all [] h = refl
   keep_all (x ∷ xs) h = cond-true (test x) _ _ h.0 ∙ ap (λ ys. x ∷ ys) (keep_all xs h.1)
 
--- a list is listed, and one more after it
-pub padded_push : (xs : List ℕ) (v i : ℕ) → i ≡ length xs → length xs < 32 → set (padded xs) i v ≡ padded (xs ++ v ∷ [])
-padded_push xs v i e h =
-    let rest = 32 - length (xs ++ v ∷ []) in
-    let one : 32 - length xs ≡ suc rest = omega (arith, length_push xs v) in
-    ap (λ n. set (xs ++ replicate n 0) i v) one ∙ set_at xs 0 (replicate rest 0) v i (sym e) ∙ sym (append_assoc xs (v ∷ []) (replicate rest 0))
-
 -- the members of some components, and of one more
 pub for_more : {X : Type 0} (f : ℕ → List X) (xs : List ℕ) (c : ℕ) → for_each f (xs ++ c ∷ []) ≡ for_each f xs ++ f c
 for_more f [] c = append-nil (f c)
@@ -90,84 +84,16 @@ module _ (component : ℕ → ℕ) (c : ℕ) where
   -- a list that begins with formats of a component, and goes on with others
   pub front_is : (xs ys : List ℕ) → All (λ v. component v ≡ c) xs → All (λ v. component v ≢ c) ys → front component c (xs ++ ys) ≡ xs
   front_is [] [] h k = refl
-  front_is [] (y ∷ ys) h k = cond-false (eqb (component y) c) _ _ (ne_eqb _ _ k.0)
-  front_is (x ∷ xs) ys h k = cond-true (eqb (component x) c) _ _ (eq-eqb _ _ h.0) ∙ ap (λ zs. x ∷ zs) (front_is xs ys h.1 k)
-
-  -- what a walk along an order keeps: the end is as far from here as it was from the start
-  abbrev pub Walked : List ℕ → ℕ → ℕ → Type 0
-  Walked order start end = start + length (front component c (drop start order)) ≡ end + length (front component c (drop end order))
-
-  pub walked_more : (order : List ℕ) (start end : ℕ) → end < length order → component (get_or order end 0) ≡ c → Walked order start end → Walked order start (end + 1)
-  walked_more order start end h e w =
-      let here = at_drop_more (λ vs. length (front component c vs)) order end 0 h in
-      let step = ap length (cond-true (eqb (component (get_or order end 0)) c) (get_or order end 0 ∷ front component c (drop (end + 1) order)) [] (eq-eqb _ _ e)) in
-      omega arith
-
-  -- the walk ends at a format of another component
-  pub walked_other : (order : List ℕ) (start end : ℕ) → end < length order → component (get_or order end 0) ≢ c → Walked order start end → end ≡ start + length (front component c (drop start order))
-  walked_other order start end h ne w =
-      let here = at_drop_more (λ vs. length (front component c vs)) order end 0 h in
-      let none = ap length (cond-false (eqb (component (get_or order end 0)) c) (get_or order end 0 ∷ front component c (drop (end + 1) order)) [] (ne_eqb _ _ ne)) in
-      omega arith
-
-  -- or where the order does
-  pub walked_all : (order : List ℕ) (start end : ℕ) → length order ≤ end → Walked order start end → end ≡ start + length (front component c (drop start order))
-  walked_all order start end h w = let here = at_drop_all (λ vs. length (front component c vs)) order end h in omega arith
+  front_is [] (y ∷ ys) h k = take_while-cons (λ v. eqb (component v) c) y ys ∙ cond-false (eqb (component y) c) _ _ (ne_eqb _ _ k.0)
+  front_is (x ∷ xs) ys h k = take_while-cons (λ v. eqb (component v) c) x (xs ++ ys) ∙ cond-true (eqb (component x) c) _ _ (eq-eqb _ _ h.0) ∙ ap (λ zs. x ∷ zs) (front_is xs ys h.1 k)
 
 module _ (component : ℕ → ℕ) (c : ℕ) where
   -- one format more of a component
-  members-one : (v : ℕ) → component v ≡ c → members_of (v + 1) component c ≡ members_of v component c ++ v ∷ []
+  pub members-one : (v : ℕ) → component v ≡ c → members_of (v + 1) component c ≡ members_of v component c ++ v ∷ []
   members-one v e = keep_more (λ u. eqb (component u) c) v ∙ ap (λ vs. members_of v component c ++ vs) (cond-true _ _ _ (eq-eqb _ _ e))
 
-  members-same : (v : ℕ) → component v ≢ c → members_of (v + 1) component c ≡ members_of v component c
+  pub members-same : (v : ℕ) → component v ≢ c → members_of (v + 1) component c ≡ members_of v component c
   members-same v ne = keep_more (λ u. eqb (component u) c) v ∙ ap (λ vs. members_of v component c ++ vs) (cond-false _ _ _ (ne_eqb _ _ ne)) ∙ append-nil _
-
-  -- what gathering the formats of a component keeps: those below v are listed from the start on, after what was listed before
-  module _ (start : ℕ) (before : List ℕ) where
-    abbrev pub Gathered : ℕ → List ℕ → ℕ → Type 0
-    Gathered v order end =
-        (end ≡ start + length (members_of v component c))
-        × (length order ≡ 32)
-        × ((xs : List ℕ) → before ≡ padded xs → start ≡ length xs → order ≡ padded (xs ++ members_of v component c))
-
-    pub gathered_room : (n v end : ℕ) (order : List ℕ) → v < n → component v ≡ c → start + length (members_of n component c) ≤ 32 → Gathered v order end → end < 32
-    gathered_room n v end order h e room g =
-        let rises = keep_rises (λ u. eqb (component u) c) n (v + 1) (omega arith) in
-        let one = ap length (members-one v e) ∙ length_push (members_of v component c) v in
-        omega arith
-
-    pub gathered_one : (v end : ℕ) (order : List ℕ) {end' : ℕ} {order' : List ℕ} → component v ≡ c → end < 32 → order' ≡ set order end v → end' ≡ end + 1 →
-        Gathered v order end → Gathered (v + 1) order' end'
-    gathered_one v end order e h o i g =
-        let one = members-one v e in
-        let long = ap length one ∙ length_push (members_of v component c) v in (
-          omega arith,
-          ap length o ∙ length-set order end v ∙ g.1,
-          λ xs b s.
-              let sum = length-append xs (members_of v component c) in
-              o ∙ ap (λ o. set o end v) (g.2 xs b s) ∙ padded_push (xs ++ members_of v component c) v end (omega arith) (omega arith)
-              ∙ ap padded (append_assoc xs (members_of v component c) (v ∷ []) ∙ ap (λ ms. xs ++ ms) (sym one)),
-        )
-
-    pub gathered_none : (v end : ℕ) (order : List ℕ) {end' : ℕ} {order' : List ℕ} → component v ≢ c → order' ≡ order → end' ≡ end →
-        Gathered v order end → Gathered (v + 1) order' end'
-    gathered_none v end order ne o i g =
-        let same = members-same v ne in
-        let long = ap length same in
-        (omega arith, ap length o ∙ g.1, λ xs b s. o ∙ g.2 xs b s ∙ ap (λ ms. padded (xs ++ ms)) (sym same))
-
--- a front is no longer than its list
-pub front_fewer : (component : ℕ → ℕ) (c : ℕ) (vs : List ℕ) → length (front component c vs) ≤ length vs
-front_fewer component c [] = omega arith
-front_fewer component c (v ∷ vs) =
-    let rest = front_fewer component c vs in
-    cond_both (eqb (component v) c) (v ∷ front component c vs) [] (λ f. length f ≤ length (v ∷ vs)) (λ _. omega arith) (λ _. omega arith)
-
--- a part of a list from its front on
-pub front_part : (component : ℕ → ℕ) (c : ℕ) (vs : List ℕ) → take (length (front component c vs)) vs ≡ front component c vs
-front_part component c [] = refl
-front_part component c (v ∷ vs) =
-    cond_both (eqb (component v) c) (v ∷ front component c vs) [] (λ f. take (length f) (v ∷ vs) ≡ f) (λ _. ap (λ ws. v ∷ ws) (front_part component c vs)) (λ _. refl)
 
 -- the numbers below n, from one on
 pub below-from : (n c : ℕ) → c < n → drop c (below n) ≡ c ∷ drop (c + 1) (below n)

@@ -1,13 +1,13 @@
--- What the masks tell of the network, and what is right after each component that the program lists. Assumes nothing.
+-- What the relations tell of the network, and what is right after each component that the program lists. Assumes nothing.
 use Rattle.std.proofs.Common.{◌≡◌, ℕ, zero, suc, ◌+◌, ◌<◌, ◌≤◌, true, false, cond, not, ◌&&◌, ◌||◌, ltb, List, get_or, replicate, sym, refl, ◌∙◌, subst, ⊎_elim, add-one, arith}
 use lib.Bits.{bit_and, bit_or}
 use Rattle.std.proofs.lemmas.Bool.{cases_Bool, cases_lt, false≢true, lt-ltb, le-ltb}
 use Rattle.elimination.specs.Networks.{Network, Joined}
 use Rattle.planning.specs.Bits.{has, goes, unentered}
 use Rattle.planning.specs.Components.{Listing, lowest, every, direct, through, leads, shares, ready, listed, component_of, component_count}
-use Rattle.planning.proofs.Bits.{has-or, has-and, has-zero}
+use Rattle.bits.specs.BitsLemmas.{has-or, has-and, has-zero}
 use Rattle.planning.proofs.Lowest.{lowest-within, lowest-same, every-same}
-use Rattle.planning.proofs.MaskRows.{through_same}
+use Rattle.planning.proofs.Relations.{through_same}
 use Rattle.planning.proofs.Listings.{listing, listing-same, next, next_new, more_left, none_left, count_is, newly_listed, listed-before}
 
 -- the sets of the formats to which each leads, and of those that lead to it
@@ -36,18 +36,20 @@ sofar_none N k = record {
 }
 
 pub known_by :
-    (N : Network) (start reach into : List ℕ) → N.formats ≤ 32 → ((u v : ℕ) → u < 32 → goes start u v ≡ direct N u v) →
-    ((u v : ℕ) → u < N.formats → goes reach u v ≡ through (goes start) N.formats u v) →
-    ((v u : ℕ) → v < N.formats → goes into v u ≡ (ltb u N.formats && goes reach u v)) → Known N reach into
-known_by N start reach into few begins closes turns =
+    (N : Network) (start reach into : List ℕ) → ((u v : ℕ) → u < N.formats → goes start u v ≡ direct N u v) →
+    ((u v : ℕ) → goes reach u v ≡ through (goes start) N.formats u v) → ((v u : ℕ) → goes into v u ≡ goes reach u v) →
+    ((u v : ℕ) → goes reach u v ≡ true → u < N.formats) → Known N reach into
+known_by N start reach into begins closes turns inside =
     let n = N.formats in
-    let reaches : (u v : ℕ) → u < n → goes reach u v ≡ leads N u v = λ u v hu.
-    closes u v hu ∙ through_same n (goes start) (direct N) (λ u v hu. begins u v (omega arith)) n (omega arith) u v hu in
+    let reaches : (u v : ℕ) → u < n → goes reach u v ≡ leads N u v = λ u v hu. closes u v ∙ through_same n (goes start) (direct N) begins n (omega arith) u v hu in
     record {
       reaches = reaches;
       enters = λ v u hv.
-          let turn = turns v u hv in
-          ⊎_elim (λ low. let to = reaches u v low in grind arith) (λ high. let out = le-ltb u n high in grind arith) (cases_lt u n);
+          let turn = turns v u in
+          ⊎_elim
+          (λ low. let to = reaches u v low in let here = lt-ltb u n low in grind arith)
+          (λ high. let out = le-ltb u n high in ⊎_elim (λ yes. let low = inside u v yes in absurd (omega arith)) (λ no. grind arith) (cases_Bool (goes reach u v)))
+          (cases_lt u n);
     }
 
 module _ (N : Network) (reach into : List ℕ) (known : Known N reach into) (c done : ℕ) (of : List ℕ) (sofar : Sofar N c done of) where
@@ -110,7 +112,7 @@ module _ (N : Network) (reach into : List ℕ) (known : Known N reach into) (c d
 
     pub picked :
         (after : List ℕ) →
-        ((u : ℕ) → get_or after u 0 ≡ cond (ltb u N.formats && has (bit_and (get_or reach w 0) (get_or into w 0)) u) c (get_or of u 0)) →
+        ((u : ℕ) → get_or after u 0 ≡ cond (has (bit_and (get_or reach w 0) (get_or into w 0)) u) c (get_or of u 0)) →
         Sofar N (c + 1) (bit_or done (bit_and (get_or reach w 0) (get_or into w 0))) after
     picked after wrote = subst (λ k. Sofar N k (bit_or done (bit_and (get_or reach w 0) (get_or into w 0))) after) (sym (add-one c)) (record {
       few = more;
@@ -120,12 +122,17 @@ module _ (N : Network) (reach into : List ℕ) (known : Known N reach into) (c d
           let in-it = has-component u hu in
           cc;
       numbered = λ u hu e.
-          let low = lt-ltb u N.formats hu in
           let in-it = has-component u hu in
           let here = wrote u in
           ⊎_elim
           (λ yes. let number = new_number u hu yes in grind arith)
           (λ no. let old = sofar.numbered u hu (grind arith) in grind arith)
           (cases_Bool (shares N (next N c) u));
-      past = λ u h. let here = wrote u in let high = le-ltb u N.formats h in let old = sofar.past u h in grind arith;
+      past = λ u h.
+          let here = wrote u in
+          let and = has-and (get_or reach w 0) (get_or into w 0) u in
+          let back = known.enters w u within in
+          let high = le-ltb u N.formats h in
+          let old = sofar.past u h in
+          grind arith;
     })

@@ -5,11 +5,14 @@ use Rattle.refusals.specs.Refused.{Outcome, done}
 use Rattle.refusals.specs.declared.Refusal.{Refusal}
 use Rattle.elimination.specs.Moves.{Act, put, pass, load}
 use Rattle.expressions.specs.declared.store.Store.{Store}
-use Rattle.expressions.specs.Contents.{Contents, contents, Grown, Lent}
+use Rattle.expressions.specs.Contents.{Contents, Grown}
+use Rattle.expressions.specs.Stores.{contents, Lent, Extends}
 use Rattle.expressions.specs.Making.{step_made, sum_made, then_made}
 use Rattle.planning.specs.Running.{Ran, through, stopped, then_with, onward, move_in, act_in, run_acts, seen}
 use Rattle.planning.specs.declared.rows.Row.{Row}
-use Rattle.planning.specs.Tables.{row_of, table_of, Kept}
+use Rattle.planning.specs.Eliminating.{Kept, came, by_act, by_acts}
+use Rattle.planning.specs.Tables.{row_of, table_of}
+use Rattle.planning.specs.declared.table.Table.{Table}
 use Rattle.planning.proofs.Entries.{table-put}
 
 -- a store that has grown twice has grown
@@ -27,9 +30,17 @@ grown-on {b} {c} {d} g h = record {
 pub lent-on : {s t u : Store} → Lent t s → Lent u t → Lent u s
 lent-on g h = record { records = h.records ∙ g.records; heads = h.heads ∙ g.heads }
 
+-- and so it is extended
+pub extends-on : {s t u : Store} → Extends s t → Extends t u → Extends s u
+extends-on g h = record { grown = grown-on g.grown h.grown; lent = lent-on g.lent h.lent }
+
 -- a run goes on with what was made
 pub made-on : {X : Type 0} {o made : Outcome ℕ × Contents} (next : ℕ → Contents → Ran X) → o ≡ made → then_with o next ≡ then_with made next
 made-on next e = ap (λ m. then_with m next) e
+
+-- a run has come through to the same contents and the same table
+pub through-both : {X : Type 0} {c d : Contents} {x y : X} → c ≡ d → x ≡ y → through c x ≡ through d y
+through-both e f = λ i. through (e i) (f i)
 
 -- a pass of a row, from the two expressions that are made in it
 pub passed : (R : ℕ → ℕ) (c : Contents) (v w leads : ℕ) {y : ℕ} {d : Contents} {o : Outcome ℕ × Contents} →
@@ -60,8 +71,8 @@ row_moved r d rows u row h e = written r ∙ ap (λ m. onward m next) e
     written (Err _) = refl
 
 -- what is kept in two steps is kept
-pub kept_on : {s t u : Store} {rows next : List Row} → Kept s t rows → Kept t u next → Kept s u next
-kept_on g h = record { sound = h.sound; grown = grown-on g.grown h.grown; lent = lent-on g.lent h.lent; fits = h.fits }
+pub kept_on : {s t u : Table} → Kept s t → Kept t u → Kept s u
+kept_on g h = record { store = extends-on g.store h.store; same = h.same ∙ g.same }
 
 -- the same acts are run after the same
 pub onward-on : (acts : List Act) {m ran : Ran (ℕ → ℕ → ℕ)} → m ≡ ran → onward m (λ e S. run_acts e S acts) ≡ onward ran (λ e S. run_acts e S acts)
@@ -77,30 +88,36 @@ pub run-++ : (c : Contents) (P : ℕ → ℕ → ℕ) (acts rest : List Act) →
 run-++ c P [] rest = refl
 run-++ c P (a ∷ acts) rest = after_both acts rest (λ d Q. run-++ d Q acts rest) (act_in c P a)
 
--- What a loop over a list keeps, from a store and a table at first to those at element k: what a run keeps, and that the
--- acts of the elements that are left give what those of all gave at first.
-pub record Left (acts : List ℕ → List Act) (xs : List ℕ) (s : Store) (first : List Row) (t : Store) (rows : List Row) (k : ℕ) : Type 0 where
-  pub kept : Kept s t rows
-  pub run : run_acts (contents t) (table_of rows) (acts (drop k xs)) ≡ run_acts (contents s) (table_of first) (acts xs)
+-- an act is run, then acts after it, and then the rest
+pub after_act : (t : Table) (a : Act) (acts rest : List Act) (u : Table) {m : Ran (ℕ → ℕ → ℕ)} →
+    came (Ok tt) u ≡ by_act t a → m ≡ by_acts u acts → onward m (λ e S. run_acts e S rest) ≡ by_acts t (a ∷ acts ++ rest)
+after_act t a acts rest u first then =
+    onward-on rest then ∙ run-++ (contents u.store.now) (table_of u.rows) acts rest ∙ onward-on (acts ++ rest) first
+
+-- What a loop over a list keeps, from a table at first to that at element k: what a run keeps, and that the acts of the
+-- elements that are left give what those of all gave at first.
+pub record Left (acts : List ℕ → List Act) (xs : List ℕ) (first now : Table) (k : ℕ) : Type 0 where
+  pub kept : Kept first now
+  pub run : by_acts now (acts (drop k xs)) ≡ by_acts first (acts xs)
 
 -- the acts of element k are run, and then the others that are left, or no more after a refusal
-pub left-on : {acts : List ℕ → List Act} {xs : List ℕ} {s t : Store} {first rows : List Row} {k : ℕ} {m ran : Ran (ℕ → ℕ → ℕ)} →
-    Left acts xs s first t rows k → k < length xs → m ≡ ran →
-    onward ran (λ e S. run_acts e S (acts (drop (k + 1) xs))) ≡ run_acts (contents t) (table_of rows) (acts (get_or xs k 0 ∷ drop (k + 1) xs)) →
-    onward m (λ e S. run_acts e S (acts (drop (k + 1) xs))) ≡ run_acts (contents s) (table_of first) (acts xs)
-left-on {acts} {xs} {t} {rows} {k} left h e split =
+pub left-on : {acts : List ℕ → List Act} {xs : List ℕ} {first now : Table} {k : ℕ} {m ran : Ran (ℕ → ℕ → ℕ)} →
+    Left acts xs first now k → k < length xs → m ≡ ran →
+    onward ran (λ e S. run_acts e S (acts (drop (k + 1) xs))) ≡ by_acts now (acts (get_or xs k 0 ∷ drop (k + 1) xs)) →
+    onward m (λ e S. run_acts e S (acts (drop (k + 1) xs))) ≡ by_acts first (acts xs)
+left-on {acts} {xs} {now} {k} left h e split =
     onward-on (acts (drop (k + 1) xs)) e ∙ split ∙
-    sym (at_drop_more (λ ys. run_acts (contents t) (table_of rows) (acts ys)) xs k 0 h) ∙ left.run
+    sym (at_drop_more (λ ys. by_acts now (acts ys)) xs k 0 h) ∙ left.run
 
 -- so where the acts of element k are a list of their own
-pub left-first : {acts : List ℕ → List Act} {xs : List ℕ} {s t : Store} {first rows : List Row} {k : ℕ} {m : Ran (ℕ → ℕ → ℕ)} (now : List Act) →
-    Left acts xs s first t rows k → k < length xs → acts (get_or xs k 0 ∷ drop (k + 1) xs) ≡ now ++ acts (drop (k + 1) xs) →
-    m ≡ run_acts (contents t) (table_of rows) now →
-    onward m (λ e S. run_acts e S (acts (drop (k + 1) xs))) ≡ run_acts (contents s) (table_of first) (acts xs)
-left-first {acts} {xs} {t} {rows} {k} now left h split e =
-    left-on left h e (run-++ (contents t) (table_of rows) now (acts (drop (k + 1) xs)) ∙ ap (run_acts (contents t) (table_of rows)) (sym split))
+pub left-first : {acts : List ℕ → List Act} {xs : List ℕ} {first now : Table} {k : ℕ} {m : Ran (ℕ → ℕ → ℕ)} (turn : List Act) →
+    Left acts xs first now k → k < length xs → acts (get_or xs k 0 ∷ drop (k + 1) xs) ≡ turn ++ acts (drop (k + 1) xs) →
+    m ≡ by_acts now turn →
+    onward m (λ e S. run_acts e S (acts (drop (k + 1) xs))) ≡ by_acts first (acts xs)
+left-first {acts} {xs} {now} {k} turn left h split e =
+    left-on left h e (run-++ (contents now.store.now) (table_of now.rows) turn (acts (drop (k + 1) xs)) ∙ ap (by_acts now) (sym split))
 
 -- no element is left
-pub left_none : {acts : List ℕ → List Act} {xs : List ℕ} {s t : Store} {first rows : List Row} {k : ℕ} →
-    Left acts xs s first t rows k → length xs ≤ k → run_acts (contents t) (table_of rows) (acts []) ≡ run_acts (contents s) (table_of first) (acts xs)
-left_none {acts} {xs} {t} {rows} {k} left h = sym (at_drop_all (λ ys. run_acts (contents t) (table_of rows) (acts ys)) xs k h) ∙ left.run
+pub left_none : {acts : List ℕ → List Act} {xs : List ℕ} {first now : Table} {k : ℕ} →
+    Left acts xs first now k → length xs ≤ k → by_acts now (acts []) ≡ by_acts first (acts xs)
+left_none {acts} {xs} {now} {k} left h = sym (at_drop_all (λ ys. by_acts now (acts ys)) xs k h) ∙ left.run

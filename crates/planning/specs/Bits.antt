@@ -1,10 +1,7 @@
--- Numbers as sets of the places where their binary digits are 1. Assumes nothing.
-use Rattle.std.specs.Prelude.{ℕ, ◌/◌, ◌%◌, ◌^◌, Bool, not, ◌&&◌, ◌||◌, List, ◌==◌, bit_or, slice_index}
-use Rattle.planning.specs.Components.{every}
-
--- bit i of x is 1
-abbrev pub has : ℕ → ℕ → Bool
-has x i = x / 2 ^ i % 2 == 1
+-- Lists of numbers as relations, each number as a set. Assumes nothing.
+use Rattle.std.specs.Prelude.{ℕ, Bool, not, ◌&&◌, ◌||◌, List, bit_or, slice_index}
+use Rattle.bits.specs.Bits.{every}
+pub use Rattle.bits.specs.Bits.{has}
 
 -- a list of such sets as a relation: v is in set u
 abbrev pub goes : List ℕ → ℕ → ℕ → Bool

@@ -1,6 +1,7 @@
 -- The components of a network, and the order in which they are listed. Assumes nothing.
-use Rattle.std.specs.Prelude.{◌≡◌, ℕ, zero, suc, ◌<◌, ◌≤◌, Bool, true, false, cond, not, ◌&&◌, ◌||◌, List, [], ◌∷◌, ◌==◌}
+use Rattle.std.specs.Prelude.{◌≡◌, ℕ, zero, suc, ◌<◌, ◌≤◌, Bool, false, cond, not, ◌&&◌, ◌||◌, List, [], ◌∷◌, ◌==◌}
 use Rattle.elimination.specs.Networks.{Arc, Network, arc, InForce, Route}
+pub use Rattle.bits.specs.Bits.{every}
 
 -- some route leads from u to v
 abbrev pub Leads : Network → ℕ → ℕ → Type 0
@@ -30,11 +31,6 @@ pub record Listing (N : Network) (count : ℕ) (component : ℕ → ℕ) : Type 
 abbrev pub lowest : ℕ → (ℕ → Bool) → ℕ
 lowest zero test = 0
 lowest (suc n) test = cond (test 0) 0 (suc (lowest n (λ i. test (suc i))))
-
--- every number below n passes the test
-abbrev pub every : ℕ → (ℕ → Bool) → Bool
-every zero test = true
-every (suc n) test = test n && every n test
 
 -- some step in force leads from u to v
 abbrev pub joins : List Arc → ℕ → ℕ → Bool

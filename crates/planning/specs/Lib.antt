@@ -4,3 +4,4 @@ pub mod Drawn
 pub mod Orders
 pub mod Running
 pub mod Tables
+pub mod Eliminating

@@ -1,5 +1,5 @@
 -- The order in which the formats of a network are listed. Assumes nothing.
-use Rattle.std.specs.Prelude.{ℕ, ◌-◌, cond, List, [], ◌∷◌, ◌++◌, length, replicate, ◌==◌, nat_eq}
+use Rattle.std.specs.Prelude.{ℕ, ◌-◌, List, ◌++◌, length, replicate, take_while, ◌==◌, nat_eq}
 use Rattle.elimination.specs.Moves.{keep, below, for_each}
 
 -- the formats below n of a component, rising
@@ -16,5 +16,4 @@ padded xs = xs ++ replicate (32 - length xs) 0
 
 -- the formats of component c with which a list begins
 abbrev pub front : (ℕ → ℕ) → ℕ → List ℕ → List ℕ
-front component c [] = []
-front component c (v ∷ vs) = cond (component v == c) (v ∷ front component c vs) []
+front component c = take_while (λ v. component v == c)

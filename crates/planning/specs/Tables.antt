@@ -1,7 +1,5 @@
 -- The table of a plan as a function of two formats. Assumes nothing.
 use Rattle.std.specs.Prelude.{◌≡◌, ℕ, ◌<◌, List, [], length, slice_index, slice_index_or, slice_set}
-use Rattle.expressions.specs.declared.store.Store.{Store}
-use Rattle.expressions.specs.Contents.{contents, Sound, Grown, Lent}
 use Rattle.planning.specs.declared.rows.Row.{Row}
 
 -- past its 32 places a row has nothing
@@ -31,10 +29,3 @@ pub record TableFits (count : ℕ) (rows : List Row) : Type 0 where
 -- the numbers of a list are places of a row; past its end get_or gives 0, which is one too
 abbrev pub Places : List ℕ → Type 0
 Places xs = (k : ℕ) → slice_index xs k < 32
-
--- what a run over a table keeps: the store is sound and has grown in the buffers that were lent, and the table fits it
-pub record Kept (entry exit : Store) (rows : List Row) : Type 0 where
-  pub sound : Sound (contents exit)
-  pub grown : Grown (contents entry) (contents exit)
-  pub lent : Lent exit entry
-  pub fits : TableFits exit.count rows

@@ -5,8 +5,9 @@ mod components;
 mod eliminating;
 mod listing;
 mod rows;
+mod table;
 
 pub use components::{Components, list};
-pub use eliminating::{eliminate, load, tabulate};
 pub use listing::{group, order};
 pub use rows::Row;
+pub use table::Table;

@@ -1,7 +1,7 @@
 // A row of the table, and the moves that change it.
 ghost use Rattle.std.specs.Prelude.{◌≡◌, ℕ, ◌<◌, ◌≤◌, length, replicate};
 ghost use Rattle.elimination.specs.Moves.{put, scale, pass};
-ghost use Rattle.expressions.specs.Contents.{contents, Sound, Lent, Grown};
+ghost use Rattle.expressions.specs.Stores.{contents, Extends};
 ghost use Rattle.planning.specs.Running.{Ran, seen, move_in};
 ghost use Rattle.planning.specs.Tables.{row_of, written, RowFits};
 
@@ -33,14 +33,11 @@ impl Row {
         row
     }
 
-    // The entry at w, nothing past the 32 places.
+    // The entry at w, past the 32 places nothing: no route leads there.
     pub fn get(&self, w: usize) -> u32
         ensures { result ≡ row_of self.now w }
     {
-        match self.at.get(w) {
-            Some(x) => *x,
-            None => 0,
-        }
+        self.at.get(w).copied().unwrap_or(0)
     }
 
     // The entry at w becomes x.
@@ -53,15 +50,12 @@ impl Row {
 
     // R(v) becomes R(v) and then what is closed at v.
     pub fn scale(&mut self, store: &mut Store, v: usize, closed: u32) -> Result<(), Refusal>
-        requires sound { Sound (contents store.old) }
         requires fits { RowFits store.old.count self.old }
         requires place { v < 32 }
         requires part { closed < store.old.count }
         ensures moved { ◌≡◌ {A = Ran (ℕ → ℕ)} (seen result (contents store.new) (row_of self.new)) (move_in (λ _ _. closed) (contents store.old) (row_of self.old) (scale v)) }
         ensures fits { RowFits store.new.count self.new }
-        ensures sound { Sound (contents store.new) }
-        ensures grown { Grown (contents store.old) (contents store.new) }
-        ensures lent { Lent store.new store.old }
+        ensures kept { Extends store.old store.new }
     {
         self.at[v] = store.then(self.at[v], closed)?;
         Ok(())
@@ -69,16 +63,13 @@ impl Row {
 
     // R(w) becomes R(w), or R(v) and then what leads from v to w.
     pub fn pass(&mut self, store: &mut Store, v: usize, w: usize, leads: u32) -> Result<(), Refusal>
-        requires sound { Sound (contents store.old) }
         requires fits { RowFits store.old.count self.old }
         requires from { v < 32 }
         requires to { w < 32 }
         requires part { leads < store.old.count }
         ensures moved { ◌≡◌ {A = Ran (ℕ → ℕ)} (seen result (contents store.new) (row_of self.new)) (move_in (λ _ _. leads) (contents store.old) (row_of self.old) (pass v w)) }
         ensures fits { RowFits store.new.count self.new }
-        ensures sound { Sound (contents store.new) }
-        ensures grown { Grown (contents store.old) (contents store.new) }
-        ensures lent { Lent store.new store.old }
+        ensures kept { Extends store.old store.new }
     {
         let carried = store.then(self.at[v], leads)?;
         self.at[w] = store.sum(self.at[w], carried)?;

@@ -6,4 +6,5 @@ use Rattle.planning.proofs.components.direct.Given as goal
 
 -- with the steps so far
 abbrev pub invariant-loop-s : goal.invariant-loop-s
-invariant-loop-s l = (u v : ℕ) → u < 32 → goes l.reach u v ≡ direct (drawn 32 (take l.s-index l.steps)) u v
+invariant-loop-s l =
+    (l.reach.size ≡ l.formats) × ((u v : ℕ) → u < l.formats → goes l.reach.sets u v ≡ direct (drawn l.formats (take l.s-index l.steps)) u v)

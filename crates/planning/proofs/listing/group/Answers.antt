@@ -1,20 +1,19 @@
--- The part of the order up to the end of the component. Assumes nothing.
-use Rattle.std.proofs.Common.{◌≡◌, ◌-◌, length, get_or, take, drop, ap, ◌∙◌, arith, rules}
-use Rattle.std.proofs.lemmas.List.{length-drop}
-use Rattle.planning.specs.Orders.{front}
-use Rattle.planning.proofs.Orders.{front_fewer, front_part}
+-- The formats from the start on are places too, and no more of them lead than there are. Assumes nothing.
+use Rattle.std.proofs.Common.{ℕ, ◌+◌, ◌<◌, drop, sym, subst, arith}
+use Rattle.std.specs.List.{All}
+use Rattle.std.proofs.lemmas.List.{get_or-drop, length-drop, take_rest}
+use Rattle.std.proofs.lemmas.List.Elements.{All-from_get_or}
 use Rattle.planning.proofs.listing.group.Goals as goal
 
-pub slice_bounds-result-end : goal.slice_bounds-result-end
-slice_bounds-result-end c =
+pub leading-requires : goal.leading-requires
+leading-requires c =
     let order = c.args.order.now in
-    let fewer = front_fewer (λ v. get_or c.args.component.now v 0) c.args.c (drop c.args.start order) in
-    let left = length-drop c.args.start order in
-    search rules
+    let start : ℕ = c.args.start in
+    subst (All (λ v. v < 32)) (sym (take_rest order start))
+    (All-from_get_or (λ v. v < 32) (drop start order) 0 (λ i h. subst (λ v. v < 32) (sym (get_or-drop start order i 0)) (c.requires.places (start + i))))
 
-pub returns : goal.returns
-returns c =
-    let left = drop c.args.start c.args.order.now in
-    let part = front (λ v. get_or c.args.component.now v 0) c.args.c left in
-    let e : c.end_of.result - c.args.start ≡ length part = omega arith in
-    ap (λ k. take k left) e ∙ front_part (λ v. get_or c.args.component.now v 0) c.args.c left
+pub overflow_add-end : goal.overflow_add-end
+overflow_add-end c = omega (arith, length-drop c.args.start c.args.order.now, c.leading.ensures.within)
+
+pub slice_bounds-result-end : goal.slice_bounds-result-end
+slice_bounds-result-end c = omega (arith, length-drop c.args.start c.args.order.now, c.leading.ensures.within)

@@ -7,5 +7,5 @@ pub returns : goal.returns
 returns c =
     let made = c.in_ok-self.ensures in
     let written = row_put c.args.self.now c.args.v c.in_ok-self.field-0 (omega arith) in
-    let fits = row_fits c.args.v c.in_ok-self.field-0 c.requires.place made.used (row_stays made.grown.counts c.requires.fits) in
+    let fits = row_fits c.args.v c.in_ok-self.field-0 c.requires.place made.used (row_stays made.kept.grown.counts c.requires.fits) in
     search rules

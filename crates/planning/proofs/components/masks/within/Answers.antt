@@ -1,6 +1,0 @@
-use Rattle.std.proofs.Common.{arith}
-use Rattle.planning.proofs.Bits.{adds_nothing}
-use Rattle.planning.proofs.components.masks.within.Goals as goal
-
-pub returns : goal.returns
-returns c n none = adds_nothing 32 n c.args.other c.args.mask (omega arith) (omega arith) none
