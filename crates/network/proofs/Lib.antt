@@ -1,2 +1,3 @@
+pub mod Everies
 pub mod Plannings
 pub mod Turns

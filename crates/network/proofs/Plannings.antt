@@ -9,13 +9,10 @@ use Rattle.expressions.specs.Contents.{Contents}
 use Rattle.expressions.specs.declared.Step.{Step}
 use Rattle.expressions.specs.Layout.{nowhere}
 use Rattle.expressions.proofs.Eaches.{each_at}
-use Rattle.planning.specs.declared.rows.Row.{Row}
 use Rattle.planning.specs.Components.{Listing, component_of, component_count}
 use Rattle.planning.specs.Running.{Ran, run_acts}
 use Rattle.planning.specs.Drawn.{arc_of, drawn}
 use Rattle.planning.specs.Orders.{in_order, padded}
-use Rattle.planning.specs.Tables.{no_row, row_of, table_of, RowFits, TableFits}
-use Rattle.planning.proofs.Entries.{empty-at, empty-fits}
 use Rattle.planning.proofs.Orders.{order_full}
 use Rattle.network.specs.Plans.{Planned}
 use Rattle.network.specs.Seals.{steps_sound, components, plan_for, PlannedFor}
@@ -62,20 +59,6 @@ components_are N of at past = fun_ext (λ v. elim (cases_lt v N.formats) [
   | inr l ↦ past v l ∙ sym (cond-false _ _ _ (le-ltb _ _ l))
 ])
 
--- an empty table
-module _ (r : Row) (e : r ≡ record { at = replicate 32 0 }) where
-  pub empty-table-fits : (count : ℕ) → 0 < count → TableFits count (replicate 32 r)
-  empty-table-fits count some = record {
-    places = length-replicate 32 r;
-    each = λ u h. subst (RowFits count) (sym (get_or-replicate 32 u r no_row h)) (empty-fits r e count some);
-  }
-
-  empty-table : table_of (replicate 32 r) ≡ (λ _ _. 0)
-  empty-table = fun_ext (λ u. fun_ext (λ w. elim (cases_lt u 32) [
-    | inl l ↦ ap (λ s. row_of s w) (get_or-replicate 32 u r no_row l) ∙ empty-at r e w
-    | inr l ↦ ap (λ s. row_of s w) (get_or_past (replicate 32 r) u no_row l)
-  ]))
-
 -- the same run of the acts of sealing
 run_is : {c d : Contents} {P Q : ℕ → ℕ → ℕ} {k n count counts : ℕ} {of component : ℕ → ℕ} (steps : List Step) → c ≡ d → P ≡ Q → k ≡ n → count ≡ counts → of ≡ component →
     run_acts c P (sealing (drawn k steps) count of) ≡ run_acts d Q (sealing (drawn n steps) counts component)
@@ -88,12 +71,12 @@ module _ (n : ℕ) (steps : List Step) (count : ℕ) (of order : List ℕ)
     (listing : Listing (drawn n steps) count (λ v. get_or of v 0))
     (listed : order ≡ padded (in_order n count (λ v. get_or of v 0))) where
   -- the acts that the code runs from an empty table are those of the definition
-  pub ran_is : {c d : Contents} (r : Row) {ran : Ran (ℕ → ℕ → ℕ)} → c ≡ d → r ≡ record { at = replicate 32 0 } →
-      ran ≡ run_acts c (table_of (replicate 32 r)) (sealing (drawn (length (take n order)) steps) count (λ v. get_or of v 0)) →
+  pub ran_is : {c d : Contents} {P : ℕ → ℕ → ℕ} {ran : Ran (ℕ → ℕ → ℕ)} → c ≡ d → P ≡ (λ _ _. 0) →
+      ran ≡ run_acts c P (sealing (drawn (length (take n order)) steps) count (λ v. get_or of v 0)) →
       ran ≡ run_acts d (λ _ _. 0) (sealing (drawn n steps) (component_count (drawn n steps)) (components (drawn n steps)))
-  ran_is r begun empty run =
+  ran_is begun empty run =
       run
-      ∙ run_is steps begun (empty-table r empty) (ap (λ o. length (take n o)) listed ∙ order-length n count _ listing.counted) counts
+      ∙ run_is steps begun empty (ap (λ o. length (take n o)) listed ∙ order-length n count _ listing.counted) counts
       (components_are (drawn n steps) of at past)
 
   -- the plan that is made is the one for the network

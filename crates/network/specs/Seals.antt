@@ -2,18 +2,17 @@
 -- made. Assumes nothing.
 use Rattle.std.specs.Prelude.{ℕ, Bool, cond, ◌&&◌, List, length, take, Some, Ok, Err, Result, nat_lt, slice_index}
 use Rattle.refusals.specs.Refused.{Outcome, done, refused, listed}
-use Rattle.refusals.specs.declared.Refusal.{Refusal}
 use Rattle.elimination.specs.Networks.{Network}
 use Rattle.elimination.specs.Moves.{sealing}
 use Rattle.expressions.specs.declared.Record.{Record}
 use Rattle.expressions.specs.declared.Step.{Step}
-use Rattle.expressions.specs.Contents.{cleared}
+use Rattle.expressions.specs.Contents.{Contents, cleared}
 use Rattle.expressions.specs.Layout.{each}
 use Rattle.planning.specs.Components.{Listing, component_of, component_count}
 use Rattle.planning.specs.Drawn.{drawn}
 use Rattle.planning.specs.Orders.{in_order}
 use Rattle.planning.specs.Running.{Ran, through, stopped, run_acts}
-use Rattle.network.specs.declared.states.Draft.{Draft}
+use Rattle.network.specs.declared.states.NotSealed.{NotSealed}
 use Rattle.network.specs.declared.states.Sealed.{Sealed}
 use Rattle.network.specs.States.{DraftCounts, State, drafted, sealed}
 use Rattle.network.specs.Plans.{Planned, InTurn}
@@ -58,10 +57,13 @@ abbrev pub worked : Network → Planned → Ran (ℕ → ℕ → ℕ) → Worked
 worked N plan (through c table) = record { answer = done (component_count N, c.count); records = c.records; heads = c.heads; plan = plan_for N c.count table }
 worked N plan (stopped c number value) = record { answer = refused number value; records = c.records; heads = c.heads; plan = plan }
 
--- the store is cleared, and the acts of sealing are run in it from an empty table
+-- the acts of sealing are run in a store from an empty table
+abbrev pub worked_from : Contents → Network → Planned → Worked
+worked_from c N plan = worked N plan (run_acts c (λ _ _. 0) (sealing N (component_count N) (components N)))
+
+-- the store is cleared first
 abbrev pub worked_out : Network → List Record → List ℕ → Planned → Worked
-worked_out N records heads plan =
-    worked N plan (run_acts (cleared (record { records = records; heads = heads; count = 0 })) (λ _ _. 0) (sealing N (component_count N) (components N)))
+worked_out N records heads plan = worked_from (cleared (record { records = records; heads = heads; count = 0 })) N plan
 
 -- what came of sealing, the state after it, and the buffers of records, heads and plan
 pub record Settled : Type 0 where
@@ -84,19 +86,22 @@ settled d w = elim w.answer [
   | refused number value ↦ record { answer = refused number value; state = drafted d; records = w.records; heads = w.heads; plan = w.plan }
 ]
 
--- a draft that cannot be sealed is refused, and nothing changes; else its plan is worked out
-abbrev pub seals_with : DraftCounts → List Record → List ℕ → Planned → Outcome (List Step) → Settled
-seals_with d records heads plan (done added) = settled d (worked_out (drawn d.formats added) records heads plan)
-seals_with d records heads plan (refused number value) = record { answer = refused number value; state = drafted d; records = records; heads = heads; plan = plan }
+-- where a draft cannot be sealed that is refused, and nothing changes; else its plan is worked out
+abbrev pub works_with : DraftCounts → List Record → List ℕ → Planned → Outcome (List Step) → Worked
+works_with d records heads plan (done added) = worked_out (drawn d.formats added) records heads plan
+works_with d records heads plan (refused number value) = record { answer = refused number value; records = records; heads = heads; plan = plan }
+
+abbrev pub works : DraftCounts → List Step → List Record → List ℕ → Planned → Worked
+works d steps records heads plan = works_with d records heads plan (sealable d steps records heads)
 
 abbrev pub seals : DraftCounts → List Step → List Record → List ℕ → Planned → Settled
-seals d steps records heads plan = seals_with d records heads plan (sealable d steps records heads)
+seals d steps records heads plan = settled d (works d steps records heads plan)
 
 -- what a call that seals has come to: its result, and the buffers at its exit
-abbrev pub sealed_to : Result Sealed (Draft × Refusal) → List Record → List ℕ → Planned → Settled
+abbrev pub sealed_to : Result Sealed NotSealed → List Record → List ℕ → Planned → Settled
 sealed_to (Ok s) records heads plan = record { answer = done tt; state = sealed s; records = records; heads = heads; plan = plan }
 sealed_to (Err e) records heads plan =
-    record { answer = refused (listed e.1).0 (listed e.1).1; state = drafted e.0; records = records; heads = heads; plan = plan }
+    record { answer = refused (listed e.refusal).0 (listed e.refusal).1; state = drafted e.draft; records = records; heads = heads; plan = plan }
 
 -- A plan is right for a network: its components are numbered as the rule of the lowest format lists them, and its order has
 -- their formats in turn.

@@ -5,14 +5,11 @@ ghost use Rattle.network.specs.Drafts.{opened, After, added, turned};
 ghost use Rattle.network.specs.States.{recounted};
 
 use crate::{Draft, Sealed};
-use expressions::Step;
+use expressions::{MOST_RECORDS, Step};
 use refusals::{Buffer, Refusal};
 
 // The most steps in a network's life.
 const MOST_STEPS: usize = 256;
-
-// The most records that a store uses.
-const MOST_RECORDS: usize = 131072;
 
 impl Draft {
     // A network of so many formats, 1 to 32, and no steps.

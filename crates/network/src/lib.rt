@@ -9,4 +9,4 @@ mod states;
 
 pub use plan::Plan;
 pub use seal::steps_sound;
-pub use states::{Draft, Sealed};
+pub use states::{Draft, NotSealed, Sealed};

@@ -6,6 +6,14 @@ ghost use Rattle.network.specs.Plans.{planned, unplanned, members_in, plan_sound
 use crate::Plan;
 use planning::Row;
 
+impl Default for Plan {
+    ghost is_default = { λ plan. planned plan ≡ unplanned };
+
+    fn default() -> Plan {
+        Plan::new()
+    }
+}
+
 impl Plan {
     // A plan for no formats.
     pub fn new() -> Plan
@@ -36,14 +44,11 @@ impl Plan {
         &self.component[..self.formats as usize]
     }
 
-    // The component of format v, 0 past the formats.
+    // The component of format v, 0 past the formats: as in the definition, which every number has a component in.
     pub fn component_of(&self, v: usize) -> u32
         ensures { result ≡ (planned self.now).component v }
     {
-        match self.component.get(v) {
-            Some(c) => *c,
-            None => 0,
-        }
+        self.component.get(v).copied().unwrap_or(0)
     }
 
     // How many components there are.
@@ -61,6 +66,7 @@ impl Plan {
         if c >= self.components {
             return &order[..0];
         }
+        // A loop, since each start is where the group before it ends: as a fold this reads no plainer.
         let mut start = 0;
         for d in 0..c {
             start += planning::group(order, &self.component, d as u32, start).len();
@@ -68,43 +74,26 @@ impl Plan {
         planning::group(order, &self.component, c as u32, start)
     }
 
-    // The expression from u to w, 0 past the formats.
+    // The expression from u to w, past the formats 0, which is nothing: no route leads there.
     pub fn entry(&self, u: usize, w: usize) -> u32
         ensures { result ≡ (planned self.now).table u w }
     {
-        match self.rows.get(u) {
-            Some(row) => row.get(w),
-            None => 0,
-        }
+        self.rows.get(u).map_or(0, |row| row.get(w))
     }
 
-    // Whether one of the first n entries of a row names a record that is not below the count.
+    // Whether each of the first entries of a row names a record below the count.
     fn row_sound(&self, u: usize, formats: usize, records: usize) -> bool
         ensures { result ≡ every formats (λ w. nat_lt ((planned self.now).table u w) records) }
     {
-        for w in 0..formats {
-            if self.entry(u, w) as usize >= records {
-                return false;
-            }
-        }
-        true
+        (0..formats).all(|w| (self.entry(u, w) as usize) < records)
     }
 
     // Whether the plan is for so many formats, and names only records below the count.
     pub fn is_sound(&self, formats: usize, records: usize) -> bool
         ensures { result ≡ plan_sound formats records (planned self.now) }
     {
-        if self.formats as usize != formats {
-            return false;
-        }
-        if self.records <= records {
-            return true;
-        }
-        for u in 0..formats {
-            if !self.row_sound(u, formats, records) {
-                return false;
-            }
-        }
-        true
+        self.formats as usize == formats
+            && (self.records <= records
+                || (0..formats).all(|u| self.row_sound(u, formats, records)))
     }
 }

@@ -3,6 +3,7 @@
 // A state is moved: sealing takes the draft, and reopening gives it back, so that no step can be added to a sealed network.
 ghost use Rattle.std.specs.Prelude.{◌≡◌};
 
+use refusals::Refusal;
 use std::marker::Model;
 
 // A network that is being drawn.
@@ -30,6 +31,21 @@ impl Draft {
         ensures { result ≡ self.now.steps }
     {
         self.steps
+    }
+}
+
+// A draft that could not be sealed, and why.
+#[derive(Drop)]
+pub struct NotSealed {
+    pub draft: Draft,
+    pub refusal: Refusal,
+}
+
+impl From<NotSealed> for Refusal {
+    ghost from_gives = { λ back refusal. refusal ≡ back.refusal };
+
+    fn from(back: NotSealed) -> Refusal {
+        back.refusal
     }
 }
 

@@ -1,17 +1,12 @@
--- Each turn looks at one entry more. Assumes nothing.
-use Rattle.std.proofs.Common.{sym, arith, below_more}
-use Rattle.std.proofs.lemmas.Bool.{lt-ltb, le-ltb}
-use Rattle.planning.proofs.Lowest.{decides_every, every-false}
+use Rattle.std.proofs.Common.{ℕ, Bool, ltb, sym, refl, ◌∙◌, rules, tests, arith}
+use Rattle.std.proofs.lemmas.Iterator.{YieldsList-from_range}
+use Rattle.std.proofs.lemmas.Iterator.Search.{all_from_yields_List}
+use Rattle.planning.specs.Tables.{table_of}
+use Rattle.network.proofs.Everies.{every_is_all}
 use Rattle.network.proofs.plan.Plan.row_sound.Goals as goal
 
-pub loop-w-init : goal.loop-w-init
-loop-w-init c k h = absurd (omega arith)
-
-pub returns-then-entry-records : goal.returns-then-entry-records
-returns-then-entry-records c = sym (every-false c.args.formats _ c.loop-w.w c.loop-w-test.true (le-ltb _ _ (omega arith)))
-
-pub loop-w-preserved : goal.loop-w-preserved
-loop-w-preserved c = below_more _ _ c.loop-w.invariant (omega arith)
-
 pub returns : goal.returns
-returns c = sym ((decides_every c.args.formats _).1 (λ k h. lt-ltb _ _ (c.loop-w.invariant k (omega arith))))
+returns c =
+    let n = c.args.formats in
+    let test : ℕ → Bool = λ w. ltb (table_of c.args.self.now.rows c.args.u w) c.args.records in
+    all_from_yields_List test _ _ c.all.result c.all.ensures.ran (YieldsList-from_range 0 n n refl (omega arith)) (λ x b q k. search (rules, tests)) ∙ sym (every_is_all n test)

@@ -1,8 +1,0 @@
--- Past the last place there is 0. Assumes nothing.
-use Rattle.std.proofs.Common.{sym}
-use Rattle.std.proofs.lemmas.List.{get_or_past}
-use Rattle.std.proofs.lemmas.Bool.{ltb-false}
-use Rattle.network.proofs.plan.Plan.component_of.Goals as goal
-
-pub returns-in-None : goal.returns-in-None
-returns-in-None c = sym (get_or_past c.args.self.now.component c.args.v 0 (ltb-false _ _ (sym c.in-None.ensures.lookup.0)))
