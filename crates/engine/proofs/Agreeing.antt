@@ -12,7 +12,7 @@ use Rattle.planning.specs.Drawn.{drawn}
 use Rattle.planning.specs.Running.{Ran, through, stopped, run_acts, run_moves}
 use Rattle.planning.proofs.Runs.{grown-on}
 use Rattle.network.specs.Plans.{Planned}
-use Rattle.network.specs.Seals.{components, plan_for, sealable, worked, worked_out, Settled, settled, seals_with}
+use Rattle.network.specs.Seals.{components, plan_for, sealable, worked, worked_out, Settled, settled, works_with}
 use Rattle.network.specs.States.{DraftCounts, SealedCounts, State, drafted, sealed}
 use Rattle.engine.specs.Tracking.{Tracked, tracked_by, ran_from, tracked}
 use Rattle.engine.specs.Histories.{World, DraftCall, add, retire, restore, seal, SealedCall, reopen, size, trace, query, after_draft, after_sealed, changed}
@@ -66,7 +66,7 @@ module _ {d : DraftCounts} {steps : List Step} {N : Network} (held : Holds d.for
 
   -- and whether it could be sealed or not
   seal_agrees : (records : List Record) (heads : List ℕ) (o : Outcome (List Step)) → sealable d steps records heads ≡ o →
-      SealAgrees steps N (seals_with d records heads plan o)
+      SealAgrees steps N (settled d (works_with d records heads plan o))
   seal_agrees records heads (refused n v) e = held
   seal_agrees records heads (done added) e =
       let can = sealable-done d steps records heads added e in

@@ -1,6 +1,6 @@
 -- The second sweep from its end, and the steps that leave a component one by one. Assumes nothing.
-use Rattle.std.proofs.Common.{◌≡◌, ℕ, ◌+◌, ◌<◌, Bool, true, false, cond, not, ◌&&◌, eqb, List, [], ◌∷◌, ◌++◌, map, length, get_or, take, drop, sym, refl, ap, ◌∙◌, append_assoc, append-nil}
-use Rattle.std.proofs.lemmas.List.{take_more, get_or-map, length-map}
+use Rattle.std.proofs.Common.{◌≡◌, ℕ, ◌+◌, ◌<◌, Bool, true, false, cond, not, ◌&&◌, eqb, List, [], ◌∷◌, ◌++◌, map, length, get_or, drop, sym, refl, ap, ◌∙◌, append_assoc, append-nil}
+use Rattle.std.proofs.lemmas.List.{get_or-map, length-map}
 use Rattle.std.proofs.lemmas.Bool.{cond-true, cond-false}
 use Rattle.elimination.specs.Moves.{Move, pass, cross, keep, below, sweep_back, for_each}
 use Rattle.elimination.specs.Networks.{Arc, Network, arc}
@@ -12,16 +12,12 @@ use Rattle.planning.proofs.Orders.{below-from}
 use Rattle.planning.proofs.Loads.{no_step, numbers, below_at}
 
 -- the last format is passed to the earlier ones, before the others are
-sweep_back_push : (earlier vs : List ℕ) (u : ℕ) → sweep_back earlier (vs ++ u ∷ []) ≡ map (pass u) (earlier ++ vs) ++ sweep_back earlier vs
+pub sweep_back_push : (earlier vs : List ℕ) (u : ℕ) → sweep_back earlier (vs ++ u ∷ []) ≡ map (pass u) (earlier ++ vs) ++ sweep_back earlier vs
 sweep_back_push earlier [] u = ap (map (pass u)) (sym (append-nil earlier)) ∙ sym (append-nil _)
 sweep_back_push earlier (v ∷ vs) u =
     ap (λ ms. ms ++ map (pass v) earlier) (sweep_back_push (earlier ++ v ∷ []) vs u)
     ∙ append_assoc (map (pass u) ((earlier ++ v ∷ []) ++ vs)) (sweep_back (earlier ++ v ∷ []) vs) (map (pass v) earlier)
     ∙ ap (λ ws. map (pass u) ws ++ (sweep_back (earlier ++ v ∷ []) vs ++ map (pass v) earlier)) (append_assoc earlier (v ∷ []) vs)
-
--- the formats up to i
-pub sweep_back_more : (vs : List ℕ) (i : ℕ) → i < length vs → sweep_back [] (take (i + 1) vs) ≡ map (pass (get_or vs i 0)) (take i vs) ++ sweep_back [] (take i vs)
-sweep_back_more vs i h = ap (sweep_back []) (take_more vs i 0 h) ∙ sweep_back_push [] (take i vs) (get_or vs i 0)
 
 -- one choice after another
 cond-and : {X : Type 0} (a b : Bool) (x y : X) → cond a (cond b x y) y ≡ cond (a && b) x y

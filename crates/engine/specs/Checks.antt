@@ -1,6 +1,6 @@
 -- The checks of the calls on a sealed network, in the order in which they are made. A check is done or refused, with a number and
 -- perhaps a value. Assumes nothing.
-use Rattle.std.specs.Prelude.{ℕ, min, Bool, cond, not, ◌&&◌, ◌||◌, List, length, take, Some, None, nat_le, nat_lt}
+use Rattle.std.specs.Prelude.{ℕ, min, Bool, cond, not, ◌&&◌, ◌||◌, List, length, take, Some, None, Option, nat_le, nat_lt}
 use Rattle.refusals.specs.Refused.{Outcome, done, refused}
 use Rattle.expressions.specs.declared.Record.{Record}
 use Rattle.expressions.specs.declared.Step.{Step}
@@ -42,6 +42,12 @@ undamaged s steps records heads plan =
 -- the source is a format
 abbrev pub known : SealedCounts → ℕ → Outcome (Unit {0})
 known s source = cond (nat_le s.formats source) (refused 2 None) (done tt)
+
+-- the lowest step in force whose weight is no member
+abbrev pub first_unweighed : List Step → (ℕ → Bool) → Option ℕ
+first_unweighed added member =
+    let first = lowest (length added) (λ j. in_force added j && not (member j)) in
+    cond (nat_lt first (length added)) (Some first) None
 
 -- the weight of each step in force is a member; if not, the lowest step whose weight is none is named
 abbrev pub weighed : List Step → (ℕ → Bool) → Outcome (Unit {0})

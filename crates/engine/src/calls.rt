@@ -13,6 +13,8 @@ use kleene::Algebra;
 use network::{Plan, Sealed};
 use refusals::Refusal;
 
+// Both take the buffers one by one, and not in a struct, so that a contract names what each holds at exit.
+
 // Traces the network from a source: the row then holds, for each format, the expression of the routes from the source to it.
 pub fn trace(
     sealed: &mut Sealed,
@@ -38,7 +40,7 @@ pub fn trace(
         plan,
         source,
     )?;
-    write_row(&traced, formats, row);
+    write_row(&traced, &mut row[..formats]);
     Ok(())
 }
 
@@ -75,10 +77,15 @@ pub fn query<A: Algebra>(
     let added = &steps[..sealed.step_count()];
     weighed(algebra, added, weights)?;
     let traced = track(sealed, added, records, heads, plan, source)?;
-    write_row(&traced, formats, row);
+    write_row(&traced, &mut row[..formats]);
     let (_, count) = sealed.size();
     answer(
-        algebra, weights, records, count, &traced, formats, memo, answers,
+        algebra,
+        weights,
+        &records[..count],
+        &traced,
+        memo,
+        &mut answers[..formats],
     );
     Ok(())
 }

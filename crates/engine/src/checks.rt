@@ -1,21 +1,17 @@
 // The checks of the calls on a sealed network.
-ghost use Rattle.std.specs.Prelude.{◌≡◌, ℕ, ◌<◌, ◌≤◌, length, take, OnOk};
+ghost use Rattle.std.specs.Prelude.{◌≡◌, ℕ, ◌<◌, ◌≤◌, not, ◌&&◌, length, take, OnOk};
 ghost use Rattle.refusals.specs.Refused.{outcome};
 ghost use Rattle.network.specs.Plans.{planned};
-ghost use Rattle.engine.specs.Checks.{long_enough, long_too, undamaged, known, weighed};
+ghost use Rattle.engine.specs.Checks.{long_enough, long_too, undamaged, known, first_unweighed, weighed};
 ghost use Rattle.engine.specs.Passing.{Long, LongToo, Undamaged};
 ghost use Rattle.engine.specs.Querying.{member_in};
 
-use expressions::{Record, Step};
+use expressions::{CHAINS, MOST_RECORDS, Record, Step};
 use kleene::Algebra;
 use network::{Plan, Sealed};
 use refusals::{Buffer, Refusal};
 
-// The chains by which equal records are found.
-const CHAINS: usize = 1024;
-
-// The most records that a store uses.
-const MOST_RECORDS: usize = 131072;
+// The checks take the buffers one by one, as they come to the calls: a struct for them would be made only to be taken apart here.
 
 // Whether the buffers of a trace are long enough.
 pub(crate) fn long_enough(
@@ -109,6 +105,24 @@ pub(crate) fn known(sealed: &Sealed, source: usize) -> Result<(), Refusal>
     }
 }
 
+// Whether a step is in force and its weight is no member of the algebra.
+fn unweighed<A: Algebra>(algebra: &A, step: Step, weight: A::Value) -> bool
+    ensures { result ≡ (step.in_force && not ((A.meaning algebra.now).member weight)) }
+{
+    step.in_force && !algebra.is_member(weight)
+}
+
+// The first such step.
+fn first_unweighed<A: Algebra>(algebra: &A, added: &[Step], weights: &[A::Value]) -> Option<usize>
+    requires { length added.now ≤ length weights.now }
+    ensures { result ≡ first_unweighed added.now (member_in (A.meaning algebra.now) weights.now) }
+{
+    added
+        .iter()
+        .zip(weights)
+        .position(|(step, weight)| unweighed(algebra, *step, *weight))
+}
+
 // Whether the weight of each step in force is a member of the algebra.
 pub(crate) fn weighed<A: Algebra>(
     algebra: &A,
@@ -118,10 +132,8 @@ pub(crate) fn weighed<A: Algebra>(
     requires { length added.now ≤ length weights.now }
     ensures { outcome (λ u. u) result ≡ weighed added.now (member_in (A.meaning algebra.now) weights.now) }
 {
-    for j in 0..added.len() {
-        if added[j].in_force && !algebra.is_member(weights[j]) {
-            return Err(Refusal::NotAMember(j));
-        }
+    match first_unweighed(algebra, added, weights) {
+        Some(j) => Err(Refusal::NotAMember(j)),
+        None => Ok(()),
     }
-    Ok(())
 }

@@ -4,6 +4,7 @@
 mod calls;
 mod checks;
 mod sweeps;
+mod tracer;
 mod tracks;
 
 pub use calls::{query, trace};

@@ -1,11 +1,12 @@
 -- The row was traced, and written. Assumes nothing.
-use Rattle.std.proofs.Common.{◌≡◌, take, refl, ap, ◌∙◌}
+use Rattle.std.proofs.Common.{◌≡◌, ◌++◌, take, drop, refl, ap, arith}
 use Rattle.std.proofs.lemmas.Result.{err_from_is_err_and}
 use Rattle.refusals.specs.Refused.{done}
 use Rattle.network.specs.Plans.{planned}
 use Rattle.planning.specs.Tables.{row_of}
-use Rattle.engine.specs.Tracking.{TraceAfter, filled, traced_by, traces}
+use Rattle.engine.specs.Tracking.{TraceAfter, traced_by, traces}
 use Rattle.engine.proofs.Ended.{trace_tracked, trace_ended, trace-routes}
+use Rattle.engine.proofs.Filled.{filled_part}
 use Rattle.engine.proofs.calls.trace.Goals as goal
 
 pub returns : goal.returns
@@ -18,9 +19,9 @@ returns c =
     let plan = planned c.args.plan.now in
     let source = c.args.source in
     let found = row_of c.in_ok-traced.traced in
-    let e : ◌≡◌ {A = TraceAfter} (record { answer = done tt; state = c.track.new.sealed; records = c.track.new.records; heads = c.track.new.heads; row = c.write_row.new.row }) (traces s steps records heads row plan source) =
+    let e : ◌≡◌ {A = TraceAfter} (record { answer = done tt; state = c.track.new.sealed; records = c.track.new.records; heads = c.track.new.heads; row = c.write_row.new.row ++ drop c.formats-formats.result row }) (traces s steps records heads row plan source) =
     trace_ended s steps records heads row plan source {found = found} (take c.step_count.result steps) (ap (λ k. take k steps) c.step_count.ensures.value)
-    (c.write_row.ensures ∙ ap (λ n. filled found n row) c.formats-formats.ensures)
+    (filled_part found row (omega (arith, c.in_ok-long_enough.ensures.passed.for_row, c.formats-formats.ensures)) c.formats-formats.ensures c.write_row.ensures)
     c.in_ok-long_enough.ensures.value c.in_ok-undamaged.ensures.value c.in_ok-known.ensures.value c.in_ok-traced.ensures in
     record { after = e; routes = trace-routes s steps records heads row plan source refl e }
 

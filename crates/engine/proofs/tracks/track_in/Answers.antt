@@ -6,7 +6,8 @@ use Rattle.refusals.specs.declared.Refusal.{Refusal}
 use Rattle.elimination.specs.Moves.{put, tracing}
 use Rattle.expressions.specs.declared.Record.{Record}
 use Rattle.expressions.specs.declared.Step.{Step}
-use Rattle.expressions.specs.Contents.{Contents, contents, Sound}
+use Rattle.expressions.specs.Contents.{Contents}
+use Rattle.expressions.specs.Stores.{contents}
 use Rattle.network.specs.Plans.{Planned, planned}
 use Rattle.network.specs.Seals.{steps_sound}
 use Rattle.network.specs.States.{SealedCounts, counting, recounted}
@@ -16,7 +17,7 @@ use Rattle.planning.specs.Running.{run_moves}
 use Rattle.planning.specs.Tables.{row_of}
 use Rattle.engine.specs.Rows.{NamesInUse, row_seen}
 use Rattle.engine.specs.Tracking.{tracked_by, ran_from}
-use Rattle.engine.proofs.Sounds.{undamaged-sound, plan-formats, names_in_use}
+use Rattle.engine.proofs.Sounds.{plan-formats, names_in_use}
 use Rattle.engine.proofs.tracks.track_in.Goals as goal
 
 -- what a call has come to, as the definition has it
@@ -41,9 +42,7 @@ trace_in-traced-requires c =
     let sealed = c.args.sealed.now in
     let u = c.requires.undamaged in
     let same = plan-formats u in
-    let s = c.args.store.now in
     record {
-      sound = subst (λ k. Sound (record { records = s.records.now; heads = s.heads.now; count = k })) (sym c.requires.counted) (undamaged-sound u c.requires.begun c.requires.within c.requires.records c.requires.heads);
       named = subst (NamesInUse (planned c.args.plan.now)) (sym c.requires.counted) (names_in_use u);
       held = c.requires.held;
       joined = subst (λ n. steps_sound n c.args.steps.now ≡ true) (sym same) u.joined;
@@ -55,12 +54,13 @@ returns c =
     let s = c.args.sealed.now in
     let plan = planned c.args.plan.now in
     let e = c.trace_in-traced.ensures in
-    let after = contents c.trace_in-traced.new.store in
-    let counted = c.count_records.ensures ∙ counted_so s after.count e.kept.sound.begun (omega (arith, e.kept.sound.room)) in
+    let store = c.trace_in-traced.new.store in
+    let after = contents store in
+    let counted = c.count_records.ensures ∙ counted_so s after.count store.begun (omega (arith, store.room)) in
     let run = run_so s c.args.steps.now c.args.store.now.records.now c.args.store.now.heads.now plan c.args.source c.args.store.now.count c.requires.counted (plan-formats c.requires.undamaged) in
     record {
       tracked =
           (λ i. record { answer = outcome row_of c.trace_in-traced.result; state = counted i; records = after.records; heads = after.heads })
           ∙ seen_so s c.trace_in-traced.result after ∙ ap (tracked_by s) (e.run ∙ run);
-      lent = e.kept.lent;
+      lent = e.lent;
     }

@@ -5,10 +5,10 @@ use Rattle.network.specs.Plans.{planned}
 use Rattle.planning.proofs.Loads.{numbers}
 use Rattle.engine.proofs.Leaving.{leaving_of}
 use Rattle.engine.proofs.Moved.{Sofar}
-use Rattle.engine.proofs.sweeps.leave.Given as goal
+use Rattle.engine.proofs.tracer.Tracer.leave.Given as goal
 
 abbrev pub invariant-loop-j : goal.invariant-loop-j
 invariant-loop-j l =
-    let p = planned l.plan in
-    Sofar p.table (leaving_of p.formats l.steps p.component l.c (drop l.j (numbers l.steps))) (leaving_of p.formats l.steps p.component l.c (numbers l.steps))
-    l.initial.store l.initial.row l.store l.row
+    let p = planned l.initial.self.plan.now in
+    let steps = l.initial.self.steps.now in
+    Sofar (leaving_of p.formats steps p.component l.c (drop l.j (numbers steps))) (leaving_of p.formats steps p.component l.c (numbers steps)) l.initial.self l.self

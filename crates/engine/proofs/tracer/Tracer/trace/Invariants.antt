@@ -5,10 +5,10 @@ use Rattle.network.specs.Plans.{planned}
 use Rattle.planning.specs.Drawn.{drawn}
 use Rattle.engine.specs.Rows.{through_component}
 use Rattle.engine.proofs.Moved.{Sofar}
-use Rattle.engine.proofs.sweeps.sweep_all.Given as goal
+use Rattle.engine.proofs.tracer.Tracer.trace.Given as goal
 
 abbrev pub invariant-loop-c : goal.invariant-loop-c
 invariant-loop-c l =
-    let p = planned l.plan in
-    let moves = through_component (drawn p.formats l.steps) p.component in
-    Sofar p.table (for_each moves (drop l.c (below p.components))) (for_each moves (below p.components)) l.initial.store l.initial.row l.store l.row
+    let p = planned l.initial.self.plan.now in
+    let moves = through_component (drawn p.formats l.initial.self.steps.now) p.component in
+    Sofar (for_each moves (drop l.c (below p.components))) (for_each moves (below p.components)) l.initial.self l.self

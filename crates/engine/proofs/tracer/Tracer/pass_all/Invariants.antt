@@ -1,9 +1,8 @@
 -- What the loop keeps: the passes to the formats that are left give what all give where the loop began. Assumes nothing.
 use Rattle.std.proofs.Common.{map, drop}
 use Rattle.elimination.specs.Moves.{pass}
-use Rattle.network.specs.Plans.{planned}
 use Rattle.engine.proofs.Moved.{Sofar}
-use Rattle.engine.proofs.sweeps.pass_all.Given as goal
+use Rattle.engine.proofs.tracer.Tracer.pass_all.Given as goal
 
 abbrev pub invariant-loop-w : goal.invariant-loop-w
-invariant-loop-w l = Sofar (planned l.plan).table (map (pass l.v) (drop l.w-index l.formats)) (map (pass l.v) l.formats) l.initial.store l.initial.row l.store l.row
+invariant-loop-w l = Sofar (map (pass l.v) (drop l.w-index l.formats)) (map (pass l.v) l.formats) l.initial.self l.self
