@@ -9,7 +9,7 @@ use Rattle.expressions.specs.declared.Record.{Record}
 use Rattle.expressions.specs.declared.Step.{Step}
 use Rattle.expressions.specs.Contents.{Contents}
 use Rattle.expressions.specs.Layout.{blank, nowhere}
-use Rattle.network.specs.declared.states.Draft.{Draft}
+use Rattle.network.specs.declared.states.NotSealed.{NotSealed}
 use Rattle.network.specs.declared.states.Sealed.{Sealed}
 use Rattle.network.specs.Plans.{Planned, unplanned}
 use Rattle.network.specs.Seals.{Settled, seals, sealed_to}
@@ -50,7 +50,7 @@ seals-around {plan} new drawn =
     ∙ ap (seals (record { formats = 3; steps = 4 }) steps_around (replicate 32 blank) (replicate 1024 0)) new
 
 -- and sealing is not refused
-pub not-refused : {d : DraftCounts} {steps : List Step} {plan : Planned} (back : Draft × Refusal) {records : List Record} {heads : List ℕ} {plan' : Planned} →
+pub not-refused : {d : DraftCounts} {steps : List Step} {plan : Planned} (back : NotSealed) {records : List Record} {heads : List ℕ} {plan' : Planned} →
     plan ≡ unplanned → ◌≡◌ {A = Drawing} (done d, steps) (drawing_around (replicate 4 nowhere)) →
     sealed_to (Err back) records heads plan' ≡ seals d steps (replicate 32 blank) (replicate 1024 0) plan → ⊥
 unfolding sealing

@@ -34,6 +34,7 @@ pub fn around_a_loop<A: Algebra>(
     ensures asked { outcome (λ u. u) result ≡ asked_around (A.meaning algebra.now) weights.now memo.old answers.old }
     ensures least { OnOk result (LeastAround (A.meaning algebra.now) weights.now answers.new) }
 {
+    // Written out, and not by `default`: the proof computes with these buffers, and then need not first show what they hold.
     let mut steps = [Step {
         from: 0,
         to: 0,
@@ -49,10 +50,7 @@ pub fn around_a_loop<A: Algebra>(
     let mut row = [0u32; 3];
     let mut plan = Plan::new();
     let draft = draw(&mut steps)?;
-    let mut sealed = match draft.seal(&steps, &mut records, &mut heads, &mut plan) {
-        Ok(sealed) => sealed,
-        Err(back) => return Err(back.1),
-    };
+    let mut sealed = draft.seal(&steps, &mut records, &mut heads, &mut plan)?;
     engine::query(
         algebra,
         &mut sealed,
