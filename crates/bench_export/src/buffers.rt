@@ -1,80 +1,69 @@
-// A network's buffers, and rounds of calls on them.
+// A network's buffers, and rounds of calls on them. They are arrays, since a caller in another language hands over no allocator.
 use crate::checksum::Checksum;
 use crate::noise::Noise;
 use algebras::Cost;
-use expressions::{Record, Step};
+use expressions::{CHAINS, MOST_RECORDS, Record, Step};
 use network::{Draft, Plan, Sealed};
 use refusals::Refusal;
 
-pub(crate) const FORMATS: usize = 32;
+const FORMATS: usize = 32;
 
 const STEPS: usize = 256;
 
-const NO_STEP: Step = Step {
-    from: 0,
-    to: 0,
-    in_force: false,
-};
-
-const NO_RECORD: Record = Record {
-    kind: 0,
-    left: 0,
-    right: 0,
-    next: 0,
-};
-
 #[derive(Drop)]
 pub(crate) struct Buffers {
-    steps: [Step; 256],
-    records: [Record; 131072],
-    heads: [u32; 1024],
-    row: [u32; 32],
-    weights: [u32; 256],
-    memo: [u32; 131072],
-    answers: [u32; 32],
+    steps: [Step; STEPS],
+    records: [Record; MOST_RECORDS],
+    heads: [u32; CHAINS],
+    pub(crate) row: [u32; FORMATS],
+    weights: [u32; STEPS],
+    memo: [u32; MOST_RECORDS],
+    pub(crate) answers: [u32; FORMATS],
     plan: Plan,
 }
 
 impl Buffers {
     pub(crate) fn new() -> Buffers {
         Buffers {
-            steps: [NO_STEP; 256],
-            records: [NO_RECORD; 131072],
-            heads: [0; 1024],
-            row: [0; 32],
-            weights: [0; 256],
-            memo: [0; 131072],
-            answers: [0; 32],
+            steps: [Step::default(); STEPS],
+            records: [Record::default(); MOST_RECORDS],
+            heads: [0; CHAINS],
+            row: [0; FORMATS],
+            weights: [0; STEPS],
+            memo: [0; MOST_RECORDS],
+            answers: [0; FORMATS],
             plan: Plan::new(),
         }
     }
 
-    // Adds the steps, and gives each a cost.
-    pub(crate) fn draw(&mut self, draft: &mut Draft, noise: &mut Noise) -> Result<(), Refusal> {
-        for j in 0..STEPS {
-            let from = noise.next() as usize % FORMATS;
-            let to = noise.next() as usize % FORMATS;
+    // Adds as many steps as there are weights, and gives each a cost.
+    fn draw(&mut self, draft: &mut Draft, noise: &mut Noise) -> Result<(), Refusal> {
+        for weight in self.weights.iter_mut() {
+            let from = noise.draw() as usize % FORMATS;
+            let to = noise.draw() as usize % FORMATS;
             draft.add(&mut self.steps, from, to)?;
-            if let Some(weight) = self.weights.get_mut(j) {
-                *weight = noise.next();
-            }
+            *weight = noise.draw();
         }
         Ok(())
     }
 
-    fn seal(&mut self, draft: Draft) -> Result<Sealed, Refusal> {
-        match draft.seal(
+    // Draws the network of a seed, and seals it.
+    fn start(&mut self, seed: u64) -> Result<Sealed, Refusal> {
+        let mut draft = Draft::open(FORMATS)?;
+        self.draw(&mut draft, &mut Noise::new(seed))?;
+        self.seal(draft)
+    }
+
+    pub(crate) fn seal(&mut self, draft: Draft) -> Result<Sealed, Refusal> {
+        Ok(draft.seal(
             &self.steps,
             &mut self.records,
             &mut self.heads,
             &mut self.plan,
-        ) {
-            Ok(sealed) => Ok(sealed),
-            Err(back) => Err(back.1),
-        }
+        )?)
     }
 
-    fn trace(&mut self, sealed: &mut Sealed, source: usize) -> Result<(), Refusal> {
+    pub(crate) fn trace(&mut self, sealed: &mut Sealed, source: usize) -> Result<(), Refusal> {
         engine::trace(
             sealed,
             &self.steps,
@@ -86,7 +75,7 @@ impl Buffers {
         )
     }
 
-    fn query(&mut self, sealed: &mut Sealed, source: usize) -> Result<(), Refusal> {
+    pub(crate) fn query(&mut self, sealed: &mut Sealed, source: usize) -> Result<(), Refusal> {
         engine::query(
             &Cost,
             sealed,
@@ -102,59 +91,26 @@ impl Buffers {
         )
     }
 
-    // Adds the records in use to a checksum.
-    fn sum_up(&self, sealed: &Sealed, sum: &mut Checksum) {
+    // The records in use.
+    fn records(&self, sealed: &Sealed) -> &[Record] {
         let (_, count) = sealed.size();
-        sum.add_records(self.records.get(..count).unwrap_or(&[]));
+        self.records.get(..count).unwrap_or(&[])
     }
 
-    // Seals and reopens the network.
-    pub(crate) fn seal_rounds(
-        &mut self,
-        draft: Draft,
-        rounds: u64,
-        sum: &mut Checksum,
-    ) -> Result<(), Refusal> {
-        let mut draft = draft;
-        for _ in 0..rounds {
-            let sealed = self.seal(draft)?;
-            sum.add(sealed.size().1 as u64);
-            draft = sealed.reopen();
-        }
-        let sealed = self.seal(draft)?;
-        self.sum_up(&sealed, sum);
-        Ok(())
-    }
-
-    // Traces the sealed network from each source in turn.
-    pub(crate) fn trace_rounds(
-        &mut self,
-        draft: Draft,
-        rounds: u64,
-        sum: &mut Checksum,
-    ) -> Result<(), Refusal> {
-        let mut sealed = self.seal(draft)?;
+    // Runs rounds of a call on the network of a seed, from each source in turn, and answers a checksum of all that they made. The call
+    // gives back the network, and adds what it made to the checksum.
+    pub(crate) fn measure<F>(&mut self, rounds: u64, seed: u64, call: F) -> Result<u64, Refusal>
+    where
+        F: Fn(&mut Buffers, Sealed, usize, &mut Checksum) -> Result<Sealed, Refusal>,
+        requires { F.IsAlwaysCallable call }
+    {
+        let mut sum = Checksum::new();
+        let mut sealed = self.start(seed)?;
         for round in 0..rounds {
-            self.trace(&mut sealed, (round % FORMATS as u64) as usize)?;
-            sum.add_all(&self.row);
+            let source = (round % FORMATS as u64) as usize;
+            sealed = call(self, sealed, source, &mut sum)?;
         }
-        self.sum_up(&sealed, sum);
-        Ok(())
-    }
-
-    // Queries the sealed network for costs from each source in turn.
-    pub(crate) fn query_rounds(
-        &mut self,
-        draft: Draft,
-        rounds: u64,
-        sum: &mut Checksum,
-    ) -> Result<(), Refusal> {
-        let mut sealed = self.seal(draft)?;
-        for round in 0..rounds {
-            self.query(&mut sealed, (round % FORMATS as u64) as usize)?;
-            sum.add_all(&self.answers);
-        }
-        self.sum_up(&sealed, sum);
-        Ok(())
+        sum.add_records(self.records(&sealed));
+        Ok(sum.value())
     }
 }

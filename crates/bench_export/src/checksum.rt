@@ -27,10 +27,7 @@ impl Checksum {
 
     pub(crate) fn add_records(&mut self, records: &[Record]) {
         for record in records {
-            self.add(record.kind as u64);
-            self.add(record.left as u64);
-            self.add(record.right as u64);
-            self.add(record.next as u64);
+            self.add_all(&[record.kind, record.left, record.right, record.next]);
         }
     }
 }

@@ -7,9 +7,6 @@ mod checksum;
 mod noise;
 
 use buffers::Buffers;
-use checksum::Checksum;
-use network::Draft;
-use noise::Noise;
 use refusals::Refusal;
 
 // What is measured.
@@ -20,39 +17,51 @@ enum Kind {
     Query,
 }
 
-impl Kind {
-    fn of(number: u32) -> Option<Kind> {
+#[derive(Drop)]
+struct NoSuchKind;
+
+impl TryFrom<u32> for Kind {
+    type Error = NoSuchKind;
+
+    fn try_from(number: u32) -> Result<Kind, NoSuchKind> {
         match number {
-            0 => Some(Kind::Seal),
-            1 => Some(Kind::Trace),
-            2 => Some(Kind::Query),
-            _ => None,
+            0 => Ok(Kind::Seal),
+            1 => Ok(Kind::Trace),
+            2 => Ok(Kind::Query),
+            _ => Err(NoSuchKind),
         }
     }
 }
 
-// Draws the network, runs the rounds, and answers a checksum of all that they made.
-fn measure(kind: Kind, rounds: u64, seed: u64, buffers: &mut Buffers) -> Result<u64, Refusal> {
-    let mut draft = Draft::open(buffers::FORMATS)?;
-    buffers.draw(&mut draft, &mut Noise::new(seed))?;
-    let mut sum = Checksum::new();
+// Runs rounds of what is measured on the network of a seed.
+fn measure(kind: Kind, rounds: u64, seed: u64) -> Result<u64, Refusal> {
+    let mut buffers = Buffers::new();
     match kind {
-        Kind::Seal => buffers.seal_rounds(draft, rounds, &mut sum)?,
-        Kind::Trace => buffers.trace_rounds(draft, rounds, &mut sum)?,
-        Kind::Query => buffers.query_rounds(draft, rounds, &mut sum)?,
+        Kind::Seal => buffers.measure(rounds, seed, |buffers, sealed, _, sum| {
+            let sealed = buffers.seal(sealed.reopen())?;
+            sum.add(sealed.size().1 as u64);
+            Ok(sealed)
+        }),
+        Kind::Trace => buffers.measure(rounds, seed, |buffers, mut sealed, source, sum| {
+            buffers.trace(&mut sealed, source)?;
+            sum.add_all(&buffers.row);
+            Ok(sealed)
+        }),
+        Kind::Query => buffers.measure(rounds, seed, |buffers, mut sealed, source, sum| {
+            buffers.query(&mut sealed, source)?;
+            sum.add_all(&buffers.answers);
+            Ok(sealed)
+        }),
     }
-    Ok(sum.value())
 }
 
 // Runs so many rounds of sealing (kind 0), tracing (1) or querying (2) on the network of a seed, and answers a checksum, 0 where the
-// kind is none of these or a call was refused.
+// kind is none of these or a call was refused. A caller in C may pass any number, so that the kind comes as one, which is
+// tested once and then is a `Kind`; a refusal is answered by 0, since the C interface gives one number.
 #[unsafe(no_mangle)]
 pub extern "C" fn hollquman_rounds(kind: u32, rounds: u64, seed: u64) -> u64 {
-    let Some(kind) = Kind::of(kind) else {
-        return 0;
-    };
-    match measure(kind, rounds, seed, &mut Buffers::new()) {
-        Ok(sum) => sum,
-        Err(_) => 0,
+    match Kind::try_from(kind) {
+        Ok(kind) => measure(kind, rounds, seed).unwrap_or(0),
+        Err(NoSuchKind) => 0,
     }
 }

@@ -11,8 +11,8 @@ impl Noise {
         Noise { state: seed }
     }
 
-    // A number below 65,536.
-    pub(crate) fn next(&mut self) -> u32 {
+    // A number below 65,536. There is always another, so that this is no iterator's `next`.
+    pub(crate) fn draw(&mut self) -> u32 {
         self.state = self
             .state
             .wrapping_mul(6364136223846793005)

@@ -1,22 +1,9 @@
 // A network with the buffers that it is lent.
 use crate::histories::{Call, History};
-use expressions::{Record, Step};
+use expressions::{CHAINS, Record, Step};
 use network::{Draft, Plan, Sealed};
 use refusals::Refusal;
 use std::alloc::{AllocError, Global};
-
-const NO_STEP: Step = Step {
-    from: 0,
-    to: 0,
-    in_force: false,
-};
-
-const NO_RECORD: Record = Record {
-    kind: 0,
-    left: 0,
-    right: 0,
-    next: 0,
-};
 
 #[derive(Drop)]
 pub(crate) struct Buffers {
@@ -31,24 +18,21 @@ impl Buffers {
     // Buffers with room for so many records.
     pub(crate) fn new(heap: Global, records: usize) -> Result<Buffers, AllocError> {
         Ok(Buffers {
-            steps: vec![in heap; NO_STEP; 300]?,
-            records: vec![in heap; NO_RECORD; records]?,
-            heads: vec![in heap; 0; 1024]?,
+            steps: vec![in heap; Step::default(); 300]?,
+            records: vec![in heap; Record::default(); records]?,
+            heads: vec![in heap; 0; CHAINS]?,
             row: vec![in heap; 0; 32]?,
             plan: Plan::new(),
         })
     }
 
     pub(crate) fn seal(&mut self, draft: Draft) -> Result<Sealed, Refusal> {
-        match draft.seal(
+        Ok(draft.seal(
             self.steps.as_slice(),
             self.records.as_mut_slice(),
             self.heads.as_mut_slice(),
             &mut self.plan,
-        ) {
-            Ok(sealed) => Ok(sealed),
-            Err(back) => Err(back.1),
-        }
+        )?)
     }
 
     // Makes one of the calls on a draft.

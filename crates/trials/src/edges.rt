@@ -37,25 +37,9 @@ impl fmt::Display for Shown {
     }
 }
 
-// A line for one call.
-fn line(report: &mut Report, what: &str, came: Came, expected: Came) -> anyhow::Result<()> {
-    let same = came == expected;
-    let came = Shown(came);
-    let expected = Shown(expected);
-    let line = format!(in report.heap(); "{what}: {came}, expected {expected}")?;
-    Ok(report.verdict(&line, same)?)
-}
-
 fn open(formats: usize) -> Came {
     Draft::open(formats)?;
     Ok(Taken::Plainly)
-}
-
-fn compare_formats(report: &mut Report) -> anyhow::Result<()> {
-    let refused = Err(Refusal::FormatCount);
-    line(report, "open with 0 formats", open(0), refused)?;
-    line(report, "open with 32 formats", open(32), Ok(Taken::Plainly))?;
-    line(report, "open with 33 formats", open(33), refused)
 }
 
 // The last of so many adds.
@@ -66,22 +50,6 @@ fn add(buffers: &mut Buffers, times: usize) -> Came {
         last = Taken::Step(draft.add(buffers.steps.as_mut_slice(), 0, 1)?);
     }
     Ok(last)
-}
-
-fn compare_steps(report: &mut Report) -> anyhow::Result<()> {
-    let mut buffers = Buffers::new(report.heap(), 2)?;
-    line(
-        report,
-        "256 adds",
-        add(&mut buffers, 256),
-        Ok(Taken::Step(255)),
-    )?;
-    line(
-        report,
-        "257 adds",
-        add(&mut buffers, 257),
-        Err(Refusal::StepsFull),
-    )
 }
 
 // Sealing the two formats.
@@ -99,60 +67,51 @@ fn trace(mut buffers: Buffers) -> Came {
     Ok(Taken::Records(sealed.size().1))
 }
 
-fn compare_seals(report: &mut Report) -> anyhow::Result<()> {
-    let enough = seal(Buffers::new(report.heap(), 8)?);
-    let short = seal(Buffers::new(report.heap(), 7)?);
-    line(
-        report,
-        "seal with room for 8 records",
-        enough,
-        Ok(Taken::Records(8)),
-    )?;
-    line(
-        report,
-        "seal with room for 7 records",
-        short,
-        Err(Refusal::StoreFull(7)),
-    )
-}
-
-fn compare_traces(report: &mut Report) -> anyhow::Result<()> {
-    let enough = trace(Buffers::new(report.heap(), 11)?);
-    let short = trace(Buffers::new(report.heap(), 10)?);
-    line(
-        report,
-        "seal and trace with room for 11 records",
-        enough,
-        Ok(Taken::Records(11)),
-    )?;
-    line(
-        report,
-        "seal and trace with room for 10 records",
-        short,
-        Err(Refusal::StoreFull(10)),
-    )
-}
-
 fn modulus(m: u64) -> Came {
     Phase::new(m)?;
     Ok(Taken::Plainly)
 }
 
-fn compare_moduli(report: &mut Report) -> anyhow::Result<()> {
-    line(report, "modulus 60", modulus(60), Ok(Taken::Plainly))?;
-    line(
-        report,
-        "modulus 61",
-        modulus(61),
-        Err(Refusal::ModulusRange),
-    )
-}
-
+// Each call beside what is expected of it.
 pub(crate) fn compare(report: &mut Report) -> anyhow::Result<()> {
     report.heading("edges")?;
-    compare_formats(report)?;
-    compare_steps(report)?;
-    compare_seals(report)?;
-    compare_traces(report)?;
-    compare_moduli(report)
+    let heap = report.heap();
+    let room = |records| Buffers::new(heap, records);
+    let mut drawn = room(2)?;
+    let calls = [
+        ("open with 0 formats", open(0), Err(Refusal::FormatCount)),
+        ("open with 32 formats", open(32), Ok(Taken::Plainly)),
+        ("open with 33 formats", open(33), Err(Refusal::FormatCount)),
+        ("256 adds", add(&mut drawn, 256), Ok(Taken::Step(255))),
+        ("257 adds", add(&mut drawn, 257), Err(Refusal::StepsFull)),
+        (
+            "seal with room for 8 records",
+            seal(room(8)?),
+            Ok(Taken::Records(8)),
+        ),
+        (
+            "seal with room for 7 records",
+            seal(room(7)?),
+            Err(Refusal::StoreFull(7)),
+        ),
+        (
+            "seal and trace with room for 11 records",
+            trace(room(11)?),
+            Ok(Taken::Records(11)),
+        ),
+        (
+            "seal and trace with room for 10 records",
+            trace(room(10)?),
+            Err(Refusal::StoreFull(10)),
+        ),
+        ("modulus 60", modulus(60), Ok(Taken::Plainly)),
+        ("modulus 61", modulus(61), Err(Refusal::ModulusRange)),
+    ];
+    for (what, came, expected) in calls {
+        let same = came == expected;
+        let came = Shown(came);
+        let expected = Shown(expected);
+        report.verdict(format_args!("{what}: {came}, expected {expected}"), same)?;
+    }
+    Ok(())
 }

@@ -1,64 +1,73 @@
-// Lists of steps.
-ghost use Rattle.std.specs.Prelude.{◌≤◌};
-
+// Lists of steps, which grow from the empty one by one step at a time.
 use std::alloc::{AllocError, Global};
 
 // The most steps of a list.
 pub(crate) const LONGEST: usize = 4;
 
-#[derive(Clone, Copy, PartialEq, Eq)]
-pub(crate) struct List {
-    steps: [usize; 4],
-    len: usize,
-    ghost short: { len ≤ 4 },
+// A list of steps, and the place to which they lead.
+#[derive(Drop)]
+pub(crate) struct Route {
+    pub steps: Vec<usize>,
+    pub end: usize,
 }
 
-impl List {
-    pub(crate) fn empty() -> List {
-        List {
-            steps: [0; 4],
-            len: 0,
-        }
-    }
-
-    pub(crate) fn steps(&self) -> &[usize] {
-        &self.steps[0..self.len]
-    }
-
-    // The list with one step more, if it is not as long as a list can be.
-    pub(crate) fn with(self, step: usize) -> Option<List> {
-        if self.len >= LONGEST {
-            return None;
-        }
-        let mut steps = self.steps;
-        steps[self.len] = step;
-        Some(List {
-            steps,
-            len: self.len + 1,
-        })
+impl Route {
+    // The list with one step more, which leads to an end of its own.
+    fn with(&self, step: usize, end: usize) -> Result<Route, AllocError> {
+        let mut steps = self.steps.clone()?;
+        steps.push(step)?;
+        Ok(Route { steps, end })
     }
 }
 
-// The lists with one of so many steps more.
-fn longer(heap: Global, lists: &[List], steps: usize) -> Result<Vec<List>, AllocError> {
+// The routes with one step more.
+fn longer<F: Fn(usize, usize) -> Option<usize>>(
+    heap: Global,
+    routes: &[Route],
+    steps: usize,
+    leads: &F,
+) -> Result<Vec<Route>, AllocError>
+    requires { F.IsAlwaysCallable leads.now }
+{
     let mut out = Vec::new(heap);
-    for list in lists {
+    for route in routes {
+        // The counter is the step itself.
         for step in 0..steps {
-            if let Some(more) = list.with(step) {
-                out.push(more)?;
+            if let Some(end) = leads(route.end, step) {
+                out.push(route.with(step, end)?)?;
             }
         }
     }
     Ok(out)
 }
 
-// Every list of so many steps, by length.
-pub(crate) fn all(heap: Global, steps: usize) -> Result<Vec<List>, AllocError> {
-    let mut all = vec![in heap; List::empty()]?;
-    let mut last = vec![in heap; List::empty()]?;
+// Every route from a start by so many steps, no longer than lists get, by length: `leads` says where a step leads from a place, if it
+// leaves there.
+pub(crate) fn grow<F: Fn(usize, usize) -> Option<usize>>(
+    heap: Global,
+    start: usize,
+    steps: usize,
+    leads: F,
+) -> Result<Vec<Route>, AllocError>
+    requires { F.IsAlwaysCallable leads }
+{
+    let mut routes = Vec::new(heap);
+    let mut last = vec![in heap;
+        Route {
+            steps: Vec::new(heap),
+            end: start
+        },
+    ]?;
     for _ in 0..LONGEST {
-        last = longer(heap, last.as_slice(), steps)?;
-        all.extend_from_slice(last.as_slice())?;
+        let next = longer(heap, last.as_slice(), steps, &leads)?;
+        routes.extend(last)?;
+        last = next;
     }
-    Ok(all)
+    routes.extend(last)?;
+    Ok(routes)
+}
+
+// Every list of so many steps: each step leads from one place back to it.
+pub(crate) fn all(heap: Global, steps: usize) -> Result<Vec<Route>, AllocError> {
+    grow(heap, 0, steps, |place, _| Some(place))
 }

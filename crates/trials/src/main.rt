@@ -12,7 +12,7 @@ mod routes;
 mod spelling;
 mod walks;
 
-use anyhow::anyhow;
+use anyhow::ensure;
 use histories::HISTORIES;
 use report::Report;
 
@@ -34,9 +34,6 @@ fn run(rt: &HostRuntime) -> anyhow::Result<bool> {
 }
 
 fn main(rt: HostRuntime) -> anyhow::Result<()> {
-    if run(&rt)? {
-        Ok(())
-    } else {
-        Err(anyhow!("something differs"))
-    }
+    ensure!(run(&rt)?, "something differs");
+    Ok(())
 }

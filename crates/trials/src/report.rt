@@ -22,12 +22,12 @@ impl<'a> Report<'a> {
     }
 
     // A line that says what comes next.
-    pub(crate) fn heading(&self, line: &str) -> io::Result<()> {
+    pub(crate) fn heading(&self, line: impl fmt::Display + Drop) -> io::Result<()> {
         self.rt.println(line)
     }
 
     // A line that ends with the verdict.
-    pub(crate) fn verdict<L: fmt::Display>(&mut self, line: &L, same: bool) -> io::Result<()> {
+    pub(crate) fn verdict(&mut self, line: impl fmt::Display + Drop, same: bool) -> io::Result<()> {
         self.agreed &= same;
         let verdict = if same { "agrees" } else { "differs" };
         println!(self.rt; "  {line}: {verdict}")

@@ -1,33 +1,38 @@
 // The lists that traced expressions spell, beside the routes that are found by walking.
 use crate::buffers::Buffers;
 use crate::histories::History;
-use crate::lists::{LONGEST, List};
+use crate::lists::{LONGEST, Route};
 use crate::report::Report;
-use crate::walks::Route;
 use crate::{lists, spelling, walks};
-use anyhow::anyhow;
 use expressions::{Record, Step};
 use network::Sealed;
-use refusals::Refusal;
 use std::alloc::{AllocError, Global};
 use std::fmt;
 use std::fmt::Write;
 
-// The routes from a source, how many of them are spelled in exactly one way, and how many lists are spelled that are no routes.
-#[derive(Drop)]
-struct Tally {
-    source: usize,
-    routes: usize,
-    once: usize,
-    others: usize,
+// A list that is tried for a target: in how many ways it is spelled, and whether it is a route there.
+#[derive(Clone, Copy)]
+struct Tried<'a> {
+    steps: &'a [usize],
+    target: usize,
+    ways: u64,
+    is_route: bool,
 }
 
-impl fmt::Display for Tally {
+// Every list of a network's steps tried for each target, and the routes from a source.
+#[derive(Drop)]
+struct Comparison<'a> {
+    source: usize,
+    tried: Vec<Tried<'a>>,
+    routes: Vec<Route>,
+}
+
+impl fmt::Display for Comparison<'_> {
     fn fmt<W: fmt::Write>(&self, f: &mut fmt::Formatter<W>) -> fmt::Result {
         let source = self.source;
-        let routes = self.routes;
-        let once = self.once;
-        let others = self.others;
+        let routes = self.routes.len();
+        let once = self.once();
+        let others = self.others();
         write!(
             f,
             "from {source}: {routes} routes of at most {LONGEST} steps, {once} spelled in exactly 1 way, {others} other lists spelled"
@@ -35,108 +40,60 @@ impl fmt::Display for Tally {
     }
 }
 
-impl Tally {
+impl Comparison<'_> {
+    // How many routes are spelled in exactly one way.
+    fn once(&self) -> usize {
+        self.tried
+            .iter()
+            .filter(|tried| tried.is_route && tried.ways == 1)
+            .count()
+    }
+
+    // How many lists are spelled that are no routes.
+    fn others(&self) -> usize {
+        self.tried
+            .iter()
+            .filter(|tried| !tried.is_route && tried.ways > 0)
+            .count()
+    }
+
     fn agrees(&self) -> bool {
-        self.once == self.routes && self.others == 0
+        self.once() == self.routes.len() && self.others() == 0
     }
 
-    // Counts a list that leads to a target or does not, and is spelled in so many ways.
-    fn count(&mut self, is_route: bool, ways: u64) {
-        if is_route && ways == 1 {
-            self.once = self.once.saturating_add(1);
+    // The lists that are spelled for a target, with the ways where they are not 1.
+    fn spelled(&self, heap: Global, target: usize) -> anyhow::Result<String> {
+        let mut out = String::new(heap);
+        for tried in self.tried.iter().filter(|tried| tried.target == target) {
+            let steps = tried.steps;
+            match tried.ways {
+                0 => {}
+                1 => write!(out, " {steps:?}")?,
+                more => write!(out, " {steps:?}x{more}")?,
+            }
         }
-        if !is_route && ways > 0 {
-            self.others = self.others.saturating_add(1);
-        }
+        Ok(out)
     }
 
-    // Counts a list for each target.
-    fn count_all(&mut self, list: List, ways: &[u64], row: &[u32], routes: &[Route]) {
-        for (target, number) in row.iter().enumerate() {
-            let is_route = routes.contains(&Route { list, end: target });
-            self.count(is_route, ways.get(*number as usize).copied().unwrap_or(0));
-        }
-    }
-}
-
-// Tallies every list of the network's steps.
-fn tally_all(
-    heap: Global,
-    source: usize,
-    records: &[Record],
-    row: &[u32],
-    lists: &[List],
-    routes: &[Route],
-) -> Result<Tally, AllocError> {
-    let mut tally = Tally {
-        source,
-        routes: routes.len(),
-        once: 0,
-        others: 0,
-    };
-    for list in lists {
-        let ways = spelling::spell(heap, records, list.steps())?;
-        tally.count_all(*list, ways.as_slice(), row, routes);
-    }
-    Ok(tally)
-}
-
-// The lists that a record spells, with the ways where they are not 1.
-fn spelled(
-    heap: Global,
-    records: &[Record],
-    number: u32,
-    lists: &[List],
-) -> anyhow::Result<String> {
-    let mut out = String::new(heap);
-    for list in lists {
-        let steps = list.steps();
-        let ways = spelling::spell(heap, records, steps)?;
-        match ways.get(number as usize) {
-            None | Some(0) => {}
-            Some(1) => write!(out, " {steps:?}")?,
-            Some(more) => write!(out, " {steps:?}x{more}")?,
-        }
-    }
-    Ok(out)
-}
-
-// The routes that end at a target.
-fn walked(heap: Global, routes: &[Route], target: usize) -> anyhow::Result<String> {
-    let mut out = String::new(heap);
-    for route in routes {
-        if route.end == target {
-            let steps = route.list.steps();
+    // The routes that end at a target.
+    fn walked(&self, heap: Global, target: usize) -> anyhow::Result<String> {
+        let mut out = String::new(heap);
+        for route in self.routes.iter().filter(|route| route.end == target) {
+            let steps = &route.steps;
             write!(out, " {steps:?}")?;
         }
+        Ok(out)
     }
-    Ok(out)
-}
 
-// A line for each target with the lists themselves.
-fn show(
-    report: &mut Report,
-    records: &[Record],
-    row: &[u32],
-    lists: &[List],
-    routes: &[Route],
-) -> anyhow::Result<()> {
-    let heap = report.heap();
-    for (target, number) in row.iter().enumerate() {
-        let spelled = spelled(heap, records, *number, lists)?;
-        let walked = walked(heap, routes, target)?;
-        let same = spelled.as_str() == walked.as_str();
-        let line = format!(in heap; "  to {target}: spelled{spelled}; walked{walked}")?;
-        report.verdict(&line, same)?;
-    }
-    Ok(())
-}
-
-// What a call gave that is not to be refused.
-fn taken<T: Drop>(res: Result<T, Refusal>) -> anyhow::Result<T> {
-    match res {
-        Ok(value) => Ok(value),
-        Err(_) => Err(anyhow!("a call on a small network was refused")),
+    // A line with the lists themselves.
+    fn show(&self, report: &mut Report, target: usize) -> anyhow::Result<()> {
+        let spelled = self.spelled(report.heap(), target)?;
+        let walked = self.walked(report.heap(), target)?;
+        let same = spelled == walked;
+        Ok(report.verdict(
+            format_args!("  to {target}: spelled{spelled}; walked{walked}"),
+            same,
+        )?)
     }
 }
 
@@ -147,15 +104,15 @@ struct Trial {
     formats: usize,
     sealed: Sealed,
     buffers: Buffers,
-    lists: Vec<List>,
+    lists: Vec<Route>,
 }
 
 impl Trial {
     fn new(heap: Global, number: usize, history: &History) -> anyhow::Result<Trial> {
         let mut buffers = Buffers::new(heap, 1000)?;
-        let draft = taken(buffers.draw(history))?;
+        let draft = buffers.draw(history)?;
         let lists = lists::all(heap, draft.step_count())?;
-        let sealed = taken(buffers.seal(draft))?;
+        let sealed = buffers.seal(draft)?;
         Ok(Trial {
             number,
             formats: history.formats,
@@ -182,39 +139,61 @@ impl Trial {
         self.buffers.row.get(..self.formats).unwrap_or(&[])
     }
 
+    // Tries a list for each target.
+    fn try_list<'a>(
+        &'a self,
+        heap: Global,
+        list: &'a Route,
+        routes: &[Route],
+        tried: &mut Vec<Tried<'a>>,
+    ) -> Result<(), AllocError> {
+        let steps = list.steps.as_slice();
+        let ways = spelling::spell(heap, self.records(), steps)?;
+        tried.extend(
+            self.row().iter().enumerate().map(|(target, number)| Tried {
+                steps,
+                target,
+                ways: ways.get(*number as usize).copied().unwrap_or(0),
+                is_route: routes.iter().any(|route| route.end == target
+                    && route.steps.as_slice() == steps),
+            }),
+        )
+    }
+
     // Compares the row of a source with the routes from it.
-    fn compare(&self, report: &mut Report, source: usize) -> anyhow::Result<()> {
-        let heap = report.heap();
-        let lists = self.lists.as_slice();
+    fn compare(&self, heap: Global, source: usize) -> anyhow::Result<Comparison<'_>> {
         let routes = walks::walk(heap, self.steps(), source)?;
-        let tally = tally_all(
-            heap,
-            source,
-            self.records(),
-            self.row(),
-            lists,
-            routes.as_slice(),
-        )?;
-        report.verdict(&tally, tally.agrees())?;
-        if self.number == 1 {
-            show(report, self.records(), self.row(), lists, routes.as_slice())?;
+        let mut tried = Vec::new(heap);
+        for list in &self.lists {
+            self.try_list(heap, list, routes.as_slice(), &mut tried)?;
         }
-        Ok(())
+        Ok(Comparison {
+            source,
+            tried,
+            routes,
+        })
     }
 
     // Traces the network from a source, and compares.
     fn run(&mut self, report: &mut Report, source: usize) -> anyhow::Result<()> {
-        taken(self.buffers.trace(&mut self.sealed, source))?;
-        self.compare(report, source)
+        self.buffers.trace(&mut self.sealed, source)?;
+        let comparison = self.compare(report.heap(), source)?;
+        report.verdict(&comparison, comparison.agrees())?;
+        // the lists themselves are shown for the first network alone
+        if self.number == 1 {
+            for target in 0..self.formats {
+                comparison.show(report, target)?;
+            }
+        }
+        Ok(())
     }
 }
 
 // Compares from each source of a network in turn.
 pub(crate) fn compare(report: &mut Report, number: usize, history: &History) -> anyhow::Result<()> {
-    let heap = report.heap();
     let what = history.what;
-    let mut trial = Trial::new(heap, number, history)?;
-    report.heading(format!(in heap; "network {number}: {what}")?.as_str())?;
+    let mut trial = Trial::new(report.heap(), number, history)?;
+    report.heading(format_args!("network {number}: {what}"))?;
     for source in 0..history.formats {
         trial.run(report, source)?;
     }

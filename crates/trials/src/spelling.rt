@@ -1,120 +1,94 @@
 // In how many ways expressions spell a list of steps, counted by the rules, record after record.
 use crate::lists::LONGEST;
-use expressions::Record;
+use expressions::{Kind, Record};
 use std::alloc::{AllocError, Global};
+use std::array;
 
 // The places between the steps of a list, and those at its ends.
 const PLACES: usize = LONGEST + 1;
 
 // How often an expression spells each part of a list: the part from one place to another.
 #[derive(Clone, Copy)]
-struct Ways {
-    of: [[u64; 5]; 5],
-}
+struct Ways([[u64; PLACES]; PLACES]);
 
 impl Ways {
-    // No part is spelled.
-    fn none() -> Ways {
-        Ways { of: [[0; 5]; 5] }
+    fn from_fn<F: Fn(usize, usize) -> u64>(ways: F) -> Ways
+        requires { F.IsAlwaysCallable ways }
+    {
+        Ways(array::from_fn(|from| array::from_fn(|to| ways(from, to))))
     }
 
     fn get(&self, from: usize, to: usize) -> u64 {
-        match self.of.get(from) {
-            Some(row) => row.get(to).copied().unwrap_or(0),
-            None => 0,
-        }
+        self.0
+            .get(from)
+            .and_then(|row| row.get(to))
+            .copied()
+            .unwrap_or(0)
     }
 
-    fn set(&mut self, from: usize, to: usize, ways: u64) {
-        if let Some(row) = self.of.get_mut(from) {
-            if let Some(cell) = row.get_mut(to) {
-                *cell = ways;
-            }
-        }
+    // No part is spelled.
+    fn none() -> Ways {
+        Ways::from_fn(|_, _| 0)
     }
 
     // The empty parts are spelled once.
     fn stay() -> Ways {
-        let mut ways = Ways::none();
-        for i in 0..PLACES {
-            ways.set(i, i, 1);
-        }
-        ways
+        Ways::from_fn(|from, to| u64::from(from == to))
     }
 
     // The parts that are this step alone are spelled once.
     fn step(list: &[usize], step: usize) -> Ways {
-        let mut ways = Ways::none();
-        for (i, other) in list.iter().enumerate() {
-            if *other == step {
-                ways.set(i, i + 1, 1);
-            }
-        }
-        ways
+        Ways::from_fn(|from, to| match list.get(from..to) {
+            Some([only]) if *only == step => 1,
+            _ => 0,
+        })
     }
 
     fn sum(&self, other: &Ways) -> Ways {
-        let mut ways = Ways::none();
-        for i in 0..PLACES {
-            for k in i..PLACES {
-                ways.set(i, k, self.get(i, k).saturating_add(other.get(i, k)));
-            }
-        }
-        ways
+        Ways::from_fn(|from, to| self.get(from, to).saturating_add(other.get(from, to)))
     }
 
-    // A part is cut in two at a place from the first on: this spells what is before the cut, the other what is after.
-    fn cuts(&self, other: &Ways, first: usize, from: usize, to: usize) -> u64 {
-        let mut ways = 0u64;
-        for cut in first..=to {
-            let product = self.get(from, cut).saturating_mul(other.get(cut, to));
-            ways = ways.saturating_add(product);
-        }
-        ways
-    }
-
+    // A part is cut in two at any of its places: this spells what is before the cut, the other what is after.
     fn then(&self, other: &Ways) -> Ways {
-        let mut ways = Ways::none();
-        for i in 0..PLACES {
-            for k in i..PLACES {
-                ways.set(i, k, self.cuts(other, i, i, k));
-            }
-        }
-        ways
+        Ways::from_fn(|from, to| {
+            (from..=to)
+                .map(|cut| self.get(from, cut).saturating_mul(other.get(cut, to)))
+                .fold(0, |ways: u64, more| ways.saturating_add(more))
+        })
     }
 
-    // An empty part is spelled once. Any other is cut where the first round ends, which is not empty; the later a part begins the
-    // earlier it is counted, since the other rounds are a part that begins later.
+    // Only the parts that are not empty.
+    fn not_empty(&self) -> Ways {
+        Ways::from_fn(|from, to| if from < to { self.get(from, to) } else { 0 })
+    }
+
+    // An empty part is spelled once. Any other is cut where the first round ends, which is not empty: so no part has more rounds
+    // than a list has steps.
     fn repeat(&self) -> Ways {
-        let mut ways = Ways::stay();
-        for i in (0..PLACES).rev() {
-            for k in i + 1..PLACES {
-                ways.set(i, k, self.cuts(&ways, i + 1, i, k));
-            }
-        }
-        ways
+        let round = self.not_empty();
+        (0..LONGEST).fold(
+            Ways::stay(),
+            |rounds, _| Ways::stay().sum(&round.then(&rounds)),
+        )
     }
 }
 
 // The ways of the record of this number, none where there is no such record yet.
 fn known_ways(known: &[Ways], number: u32) -> Ways {
-    match known.get(number as usize) {
-        Some(ways) => *ways,
-        None => Ways::none(),
-    }
+    known.get(number as usize).copied().unwrap_or(Ways::none())
 }
 
 // The ways of a record, from those of the lower ones.
 fn count(list: &[usize], known: &[Ways], record: Record) -> Ways {
     let left = known_ways(known, record.left);
     let right = known_ways(known, record.right);
-    match record.kind {
-        1 => Ways::stay(),
-        2 => Ways::step(list, record.left as usize),
-        3 => left.sum(&right),
-        4 => left.then(&right),
-        5 => left.repeat(),
-        _ => Ways::none(),
+    match Kind::try_from(record.kind) {
+        Ok(Kind::Stay) => Ways::stay(),
+        Ok(Kind::Step) => Ways::step(list, record.left as usize),
+        Ok(Kind::Sum) => left.sum(&right),
+        Ok(Kind::Then) => left.then(&right),
+        Ok(Kind::Repeat) => left.repeat(),
+        Ok(Kind::Nothing) | Err(_) => Ways::none(),
     }
 }
 
@@ -125,11 +99,12 @@ pub(crate) fn spell(
     list: &[usize],
 ) -> Result<Vec<u64>, AllocError> {
     let mut known = Vec::new(heap);
-    let mut whole = Vec::new(heap);
     for record in records {
         let ways = count(list, known.as_slice(), *record);
         known.push(ways)?;
-        whole.push(ways.get(0, list.len()))?;
     }
-    Ok(whole)
+    known
+        .iter()
+        .map(|ways| ways.get(0, list.len()))
+        .collect(heap)
 }

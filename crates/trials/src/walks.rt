@@ -1,44 +1,13 @@
-// The routes of a network, found by walking it: each route is followed by every step in force that leaves where it ends.
-use crate::lists::{LONGEST, List};
+// The routes of a network, found by walking it.
+use crate::lists;
+use crate::lists::Route;
 use expressions::Step;
 use std::alloc::{AllocError, Global};
 
-#[derive(Clone, Copy, PartialEq, Eq)]
-pub(crate) struct Route {
-    pub list: List,
-    pub end: usize,
-}
-
-// The routes with one step more.
-fn longer(heap: Global, steps: &[Step], routes: &[Route]) -> Result<Vec<Route>, AllocError> {
-    let mut out = Vec::new(heap);
-    for route in routes {
-        for (j, step) in steps.iter().enumerate() {
-            if !step.in_force || step.from as usize != route.end {
-                continue;
-            }
-            if let Some(list) = route.list.with(j) {
-                out.push(Route {
-                    list,
-                    end: step.to as usize,
-                })?;
-            }
-        }
-    }
-    Ok(out)
-}
-
-// Every route from a source that is no longer than lists get, by length.
+// Every route from a source that is no longer than lists get: each is followed by every step in force that leaves where it ends.
 pub(crate) fn walk(heap: Global, steps: &[Step], source: usize) -> Result<Vec<Route>, AllocError> {
-    let start = Route {
-        list: List::empty(),
-        end: source,
-    };
-    let mut routes = vec![in heap; start]?;
-    let mut last = vec![in heap; start]?;
-    for _ in 0..LONGEST {
-        last = longer(heap, steps, last.as_slice())?;
-        routes.extend_from_slice(last.as_slice())?;
-    }
-    Ok(routes)
+    lists::grow(heap, source, steps.len(), |end, j| {
+        let step = steps.get(j)?;
+        (step.in_force && step.from as usize == end).then_some(step.to as usize)
+    })
 }
