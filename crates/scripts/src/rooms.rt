@@ -1,8 +1,9 @@
-// How long the program makes the buffers that it lends to the engine.
+// How long the buffers are made that are lent to the engine.
+use expressions::{CHAINS, MOST_RECORDS};
 use refusals::Buffer;
 
 // The buffers of steps, records and heads are made when a network is opened, the others at each call.
-#[derive(Clone, Copy)]
+#[derive(Clone, Copy, Default)]
 pub(crate) struct Rooms {
     pub steps: usize,
     pub records: usize,
@@ -14,15 +15,23 @@ pub(crate) struct Rooms {
 }
 
 impl Rooms {
+    // As long as any network needs that is only drawn.
+    pub(crate) fn for_steps() -> Rooms {
+        Rooms {
+            steps: 256,
+            ..Rooms::default()
+        }
+    }
+
     // As long as any network needs.
     pub(crate) fn ample() -> Rooms {
         Rooms {
             steps: 256,
-            records: 131072,
-            heads: 1024,
+            records: MOST_RECORDS,
+            heads: CHAINS,
             row: 32,
             weights: 256,
-            memo: 131072,
+            memo: MOST_RECORDS,
             answers: 32,
         }
     }

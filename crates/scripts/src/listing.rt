@@ -1,6 +1,5 @@
 // How steps, records and plans are listed.
-use crate::notation::Shown;
-use expressions::{Record, Step};
+use expressions::{Kind, Record, Step};
 use network::Plan;
 use std::alloc::AllocError;
 use std::fmt;
@@ -25,13 +24,13 @@ impl fmt::Display for ShownRecord {
     fn fmt<W: fmt::Write>(&self, f: &mut fmt::Formatter<W>) -> fmt::Result {
         let left = self.0.left;
         let right = self.0.right;
-        match self.0.kind {
-            0 => f.write_str("nothing"),
-            1 => f.write_str("stay"),
-            2 => write!(f, "step {left}"),
-            3 => write!(f, "sum {left} {right}"),
-            4 => write!(f, "then {left} {right}"),
-            _ => write!(f, "repeat {left}"),
+        match Kind::try_from(self.0.kind) {
+            Ok(Kind::Nothing) => f.write_str("nothing"),
+            Ok(Kind::Stay) => f.write_str("stay"),
+            Ok(Kind::Step) => write!(f, "step {left}"),
+            Ok(Kind::Sum) => write!(f, "sum {left} {right}"),
+            Ok(Kind::Then) => write!(f, "then {left} {right}"),
+            Ok(Kind::Repeat) | Err(_) => write!(f, "repeat {left}"),
         }
     }
 }
@@ -44,23 +43,6 @@ pub(crate) fn records(out: &mut String, records: &[Record]) -> Result<(), AllocE
         writeln!(out, "record {i}: {what}, next {next}")?;
     }
     Ok(())
-}
-
-// The answers of a query from a source, after what they were read in.
-pub(crate) fn answers<V: Copy>(
-    out: &mut String,
-    reading: &str,
-    source: usize,
-    answers: &[V],
-) -> Result<(), AllocError>
-where
-    Shown<V>: fmt::Display,
-{
-    write!(out, "query {reading} from {source}:")?;
-    for answer in answers {
-        write!(out, " {}", Shown(*answer))?;
-    }
-    writeln!(out)
 }
 
 // Numbers that end a line.
@@ -78,6 +60,7 @@ pub(crate) fn plan(out: &mut String, plan: &Plan) -> Result<(), AllocError> {
     write!(out, "component:")?;
     numbers(out, plan.component())?;
     let formats = plan.order().len();
+    // The counters are the formats themselves.
     for u in 0..formats {
         write!(out, "P {u}:")?;
         for w in 0..formats {
