@@ -9,6 +9,10 @@ pub some_same : (n : ℕ) (f g : ℕ → Bool) → ((k : ℕ) → k < n → f k 
 some_same zero f g same = refl
 some_same (suc n) f g same = let here = same n (omega arith) in let before = some_same n f g (λ k h. same k (omega arith)) in cc
 
+some_or : (n : ℕ) (f g : ℕ → Bool) → some n (λ k. f k || g k) ≡ (some n f || some n g)
+some_or zero f g = refl
+some_or (suc n) f g = ap (λ t. (f n || g n) || t) (some_or n f g) ∙ grind arith
+
 pub some-and : (n : ℕ) (t : Bool) (f : ℕ → Bool) → some n (λ k. t && f k) ≡ (t && some n f)
 some-and n true f = refl
 some-and n false f = some_never n (λ k. false && f k) (λ k h. refl)

@@ -6,7 +6,7 @@ use Rattle.std.specs.Int.{IsGcd}
 use Rattle.std.specs.List.{list_any}
 use Rattle.std.proofs.lemmas.Nat.{pow_pos, and_le_r}
 use Rattle.std.proofs.lemmas.Nat.Gcd.{dvd_refl, dvd_trans}
-use Rattle.std.proofs.Math.Nat.{pos_of_dvd_of_pos}
+use Rattle.std.proofs.Math.Nat.{pos_of_dvd_of_pos, le_of_dvd}
 use Rattle.std.proofs.lemmas.List.Folds.{list_any-append}
 use Rattle.std.proofs.lemmas.Bool.{cases_lt}
 use Rattle.std.proofs.lemmas.Bool.Decides.{nat_tests, same_from_decides, Decides-and, Decides-like}
@@ -40,7 +40,7 @@ dividing-more m xs g x next dividing gcd d =
     grind arith
 
 -- with every phase, g is the greatest common divisor
-pub dividing_all : (m a g : ℕ) → 1 ≤ m → m ≤ 64 → a < 2 ^ m → Dividing m (places 64 a) g → (g ≡ gcd_with m a) × (1 ≤ g)
+pub dividing_all : (m a g : ℕ) → 1 ≤ m → m ≤ 64 → a < 2 ^ m → Dividing m (places 64 a) g → (g ≡ gcd_with m a) × (1 ≤ g) × (g ≤ m)
 dividing_all m a g pos wide small dividing =
     let same : (d : ℕ) → divides d g ≡ (divides d m && every m (λ i. not (has a i) || divides d i)) = λ d.
     dividing d
@@ -49,6 +49,7 @@ dividing_all m a g pos wide small dividing =
     let common = (decides_common m a g).0 (sym (same g) ∙ (decides_divides g g).1 (dvd_refl g)) in (
       gcd_unique m a g pos common (λ d h. (decides_divides d g).0 (same d ∙ (decides_common m a d).1 h)),
       pos_of_dvd_of_pos common.0 pos,
+      le_of_dvd pos common.0,
     )
 
 -- from a multiple k of g on, the multiples are those from 0 on

@@ -93,7 +93,7 @@ product_at i (Some m) (Some n) =
     fate-same (has-or n.sets _ _ ∙ ap (λ x. has n.sets i.0 || x) (has-and m.sets n.passes _)) (has-and m.passes n.passes _)
 
 one_at : (i : Mark) → at i (Some untouched) ≡ fate false true
-one_at i = fate-same (has-zero _) (has_rest 0 i.0 (omega arith) i.1 ∙ ap not (has-zero _))
+one_at i = fate-same (has-zero _) (has_rest 64 0 i.0 (omega arith) i.1 ∙ ap not (has-zero _))
 
 star-at : (i : Mark) (a : Option Marking) → at i (star_of a) ≡ fate_star (at i a)
 star-at i None = one_at i
@@ -158,7 +158,7 @@ others_below x = set_of-below 64 (λ i. not (has x i))
 
 -- what all 64 bits leave of x is every mark that is not in x
 pub rest_is : (x : ℕ) → x < 2 ^ 64 → all - x ≡ others x
-rest_is x h = same_bits 64 (all - x) (others x) (omega arith) (others_below x) (λ i below. has_rest x i h below ∙ sym (has-others (i, below) x))
+rest_is x h = same_bits 64 (all - x) (others x) (omega arith) (others_below x) (λ i below. has_rest 64 x i h below ∙ sym (has-others (i, below) x))
 
 star-member : (a : Option Marking) → member_of a ≡ true → member_of (star_of a) ≡ true
 star-member None h = refl

@@ -40,6 +40,7 @@ impl Phase {
     pub(super) fn gcd_with(&self, a: u64) -> u32
         ensures value { result ≡ gcd_with self.now.modulus (taken (phase_meaning self.now.modulus) a) }
         ensures low { 1 ≤ result }
+        ensures high { result ≤ self.now.modulus }
     {
         Ones(self.operand(a)).fold(self.modulus, gcd)
     }

@@ -19,5 +19,5 @@ returns c =
     fold_over (YieldsFirst (λ (s : Ones). places 64 s.0)) (λ x. x) _ (Dividing m) _
     (λ xs g x next f' before k. let gcd : IsGcd g x next = search rules in (dividing-more m xs g x next before gcd, search rules))
     (record { 0 = a }) (places 64 a) m c.fold.result (YieldsList-from_first (λ x. x) (λ s. places 64 s.0) (places 64 a) refl).runs (dividing_none m) c.fold.ensures.ran in
-    let (value, low) = dividing_all m a c.fold.result (omega arith) (omega arith) small dividing in
-    record { value = value ∙ ap (gcd_with m) c.operand.ensures; low = low }
+    let (value, low, high) = dividing_all m a c.fold.result (omega arith) (omega arith) small dividing in
+    record { value = value ∙ ap (gcd_with m) c.operand.ensures; low = low; high = high }
