@@ -146,6 +146,10 @@ mod tests {
         let mut heads = [9; 1024];
         let mut store = Store::cleared(&mut records, &mut heads);
         assert_eq!(rt; make_example(&mut store), Ok(10));
+        // once it is cleared, there is room for the same again
+        store.clear();
+        assert_eq!(rt; store.count, 2);
+        assert_eq!(rt; make_example(&mut store), Ok(10));
         let mut fewer = [entry(9, 9, 9, 9); 10];
         let mut store = Store::cleared(&mut fewer, &mut heads);
         assert_eq!(rt; make_example(&mut store), Err(Refusal::StoreFull(10)));

@@ -1,6 +1,6 @@
 -- Stores stay sound: a cleared one, and one in which an expression is made. Assumes nothing.
-use Rattle.std.proofs.Common.{◌≡◌, ℕ, ◌+◌, ◌<◌, ◌≤◌, Bool, true, ltb, ◌≢◌, List, [], ◌∷◌, length, get_or, take, drop, set, Some, sym, refl, ap, subst, ⊎_elim, arith}
-use Rattle.std.proofs.lemmas.Bool.{cond_both, or_right, lt-ltb, ltb-true, cases_eq}
+use Rattle.std.proofs.Common.{◌≡◌, ℕ, zero, suc, ◌+◌, ◌<◌, ◌≤◌, Bool, true, ltb, ◌≢◌, List, [], ◌∷◌, length, get_or, take, drop, set, Some, sym, refl, ap, subst, ⊎_elim, arith}
+use Rattle.std.proofs.lemmas.Bool.{and_parts, cond_both, or_right, lt-ltb, ltb-true, cases_eq}
 use Rattle.std.proofs.lemmas.List.{length-set, length-take, length-append, length-replicate, get_or-take, get_or-set_same, get_or-set_other, take_more_set, take-set}
 use Rattle.std.proofs.lemmas.Bool.Decides.{nat_tests}
 use Rattle.refusals.specs.Refused.{Outcome, done, refused}
@@ -33,7 +33,34 @@ cleared-sound c r h =
 pub sound : (s : Store) → Sound (contents s)
 sound s = record { begun = s.begun; room = s.room; chains = s.chains; formed = s.formed; linked = s.chained; headed = s.headed }
 
+-- each of two records passes at its place
+both_pass : {X : Type 0} (test : ℕ → X → Bool) (n : ℕ) (x y : X) (xs : List X) → 2 ≤ n → each test 0 (take n (x ∷ y ∷ xs)) ≡ true → (test 0 x ≡ true) × (test 1 y ≡ true)
+both_pass test zero x y xs h e = absurd (omega arith)
+both_pass test (suc zero) x y xs h e = absurd (omega arith)
+both_pass test (suc (suc n)) x y xs h e = let first = and_parts _ _ e in (first.0, (and_parts _ _ first.1).0)
+
+first_of : (rs : List Record) (n : ℕ) → 2 ≤ n → n ≤ length rs → each well_formed 0 (take n rs) ≡ true → each linked 0 (take n rs) ≡ true →
+    rs ≡ record { kind = 0; left = 0; right = 0; next = 0 } ∷ record { kind = 1; left = 0; right = 0; next = 0 } ∷ drop 2 rs
+first_of [] n low high formed chained = absurd (omega arith)
+first_of (x ∷ []) n low high formed chained = absurd (omega arith)
+first_of (x ∷ y ∷ rs) n low high formed chained =
+    let (fx, fy) = both_pass well_formed n x y rs low formed in
+    let (lx, ly) = both_pass linked n x y rs low chained in
+    let kx : x.kind ≡ 0 = grind (arith, nat_tests) in
+    let ax : x.left ≡ 0 = grind (arith, nat_tests) in
+    let bx : x.right ≡ 0 = grind (arith, nat_tests) in
+    let nx : x.next ≡ 0 = grind (arith, nat_tests) in
+    let ky : y.kind ≡ 1 = grind (arith, nat_tests) in
+    let ay : y.left ≡ 0 = grind (arith, nat_tests) in
+    let by : y.right ≡ 0 = grind (arith, nat_tests) in
+    let ny : y.next ≡ 0 = grind (arith, nat_tests) in
+    λ i. record { kind = kx i; left = ax i; right = bx i; next = nx i } ∷ record { kind = ky i; left = ay i; right = by i; next = ny i } ∷ rs
+
 module _ {c : Contents} (sound : Sound c) where
+  -- the first two records are nothing and stay
+  pub first_two : c.records ≡ record { kind = 0; left = 0; right = 0; next = 0 } ∷ record { kind = 1; left = 0; right = 0; next = 0 } ∷ drop 2 c.records
+  first_two = first_of c.records c.count sound.begun (omega arith) sound.formed sound.linked
+
   -- with one record more, which is on no chain yet, it stays sound
   pub pushed-sound :
       (kind left right number at : ℕ) → Fits c kind left right → c.count < limit c → number ≡ kind → at ≡ chain_of kind left right →

@@ -1,5 +1,5 @@
 // The store, in which an expression is made once and then found again.
-ghost use Rattle.std.specs.Prelude.{◌≡◌, ℕ, ◌<◌, ◌≤◌, true, min, length, take, IfSome, IfOk};
+ghost use Rattle.std.specs.Prelude.{◌≡◌, ℕ, ◌<◌, ◌≤◌, true, ◌++◌, min, length, take, drop, replicate, IfSome, IfOk};
 ghost use Rattle.expressions.specs.Contents.{limit, cleared, chain_of};
 ghost use Rattle.expressions.specs.Kinds.{number_of};
 ghost use Rattle.expressions.specs.Layout.{each, well_formed, linked, heads_sound};
@@ -77,6 +77,14 @@ fn repeat_rule(x: u32) -> Option<u32>
     }
 }
 
+// Empties every chain.
+fn empty(heads: &mut [u32])
+    requires { 1024 ≤ length heads.old }
+    ensures { heads.new ≡ replicate 1024 0 ++ drop 1024 heads.old }
+{
+    heads[..CHAINS].fill(0);
+}
+
 // Writes nothing and stay, and empties every chain.
 fn clear(records: &mut [Record], heads: &mut [u32])
     requires records { 2 ≤ length records.old }
@@ -91,7 +99,7 @@ fn clear(records: &mut [Record], heads: &mut [u32])
         kind: Kind::Stay.number(),
         ..Record::default()
     };
-    heads[..CHAINS].fill(0);
+    empty(heads);
 }
 
 impl<'a> Store<'a> {
@@ -111,6 +119,15 @@ impl<'a> Store<'a> {
             heads,
             count: 2,
         }
+    }
+
+    // Leaves nothing and stay alone, which are the first two records of every store, in the buffers that were lent.
+    pub fn clear(&mut self)
+        ensures cleared { contents self.new ≡ cleared (contents self.old) }
+        ensures lent { Lent self.new self.old }
+    {
+        empty(self.heads);
+        self.count = 2;
     }
 
     // The records that the store may use.
