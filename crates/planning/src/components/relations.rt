@@ -70,9 +70,12 @@ impl Relation {
         ensures goes { (u v : ℕ) → goes self.new.sets u v ≡ (goes self.old.sets u v || (goes self.old.sets u k && goes self.old.sets k v)) }
     {
         let onward = self.sets[k];
-        self.sets = self
-            .sets
-            .map(|set| if has(set, k) { set | onward } else { set });
+        // The counter is the number itself. A map over the sets would go to those past the size too, and copy them all.
+        for u in 0..self.size {
+            if has(self.sets[u], k) {
+                self.sets[u] |= onward;
+            }
+        }
     }
 
     // Each number goes where ways through others lead.
