@@ -5,13 +5,13 @@ use Rattle.elimination.specs.Moves.{traced}
 use Rattle.elimination.specs.Series.{Series, counting, letter}
 use Rattle.elimination.proofs.Once.{at_most_once_spec}
 use Rattle.elimination.proofs.Routes.{every_route_once_spec}
-use Rattle.expressions.specs.Contents.{Contents}
+use Rattle.expressions.specs.Contents.{Contents, Sound, Grown}
 use Rattle.expressions.specs.Meanings.{ways}
 use Rattle.expressions.proofs.Ways.{ways_mean_spec}
 use Rattle.engine.proofs.Makings.{From}
 use Rattle.engine.proofs.Standings.{Taking}
 use Rattle.engine.proofs.Meanings.{Rows}
-use Rattle.engine.proofs.Kept.{Any}
+use Rattle.engine.proofs.Kept.{Any, RowUsed}
 use Rattle.engine.proofs.Traces.{Traces, row_stands}
 
 -- each list is spelled at most once
@@ -35,6 +35,10 @@ module _ {N : Network} {count : ℕ} {component : ℕ → ℕ} {s : ℕ} {c d la
   stands =
       let once = at_most_once_spec every_route_once_spec N count component s t.joined t.ordered t.source in
       row_stands counted N count component (λ _ _. tt) t once.0 once.1 (λ _ _ _. tt) (λ _ _ _. tt)
+
+  -- the store is sound and has grown, and the row is in use
+  pub traces-keep : Sound e × Grown later e × RowUsed e R
+  traces-keep = (stands.0.good.sound, stands.0.grown, λ v. (stands.1 v).in_use)
 
   -- what it spells is what elimination counts
   pub ways-traced : (v : ℕ) → ways e (R v) ≡ traced counting letter N count component s v

@@ -1,5 +1,5 @@
--- Sealing that goes through, and tracing, keep a store that names steps in force alone; a cleared store is one, and so is one whose
--- records are not damaged. Assumes nothing.
+-- Sealing and tracing keep a store that names steps in force alone, whether they go through or stop; a cleared store is one, and
+-- so is one whose records are not damaged. Assumes nothing.
 use Rattle.std.proofs.Common.{◌≡◌, ℕ, zero, suc, ◌<◌, ◌≤◌, true, eqb, List, [], ◌∷◌, length, get_or, Option, sym, refl, ◌∙◌, subst, zero-add, arith}
 use Rattle.std.proofs.lemmas.List.{length-take, get_or-take}
 use Rattle.std.proofs.lemmas.Bool.{cond_both, and_from, eqb-true}
@@ -15,7 +15,7 @@ use Rattle.expressions.proofs.Stores.{cleared-sound}
 use Rattle.planning.specs.Drawn.{drawn}
 use Rattle.planning.specs.Running.{through, stopped, run_moves, run_acts}
 use Rattle.engine.proofs.Makings.{Named, Good, From}
-use Rattle.engine.proofs.Kept.{RowUsed, TableUsed, acts_through, moves_through, moves_stopped}
+use Rattle.engine.proofs.Kept.{RowUsed, TableUsed, acts_through, acts_stopped, moves_through, moves_stopped}
 use Rattle.engine.proofs.Naming.{sealing_names, tracing_crosses}
 
 -- the first row and the first table are in use
@@ -29,6 +29,9 @@ module _ (N : Network) (count : ℕ) (component : ℕ → ℕ) {c d : Contents} 
   -- a network is sealed in the store
   pub sealing-through : {Q : ℕ → ℕ → ℕ} → run_acts c (λ _ _. 0) (sealing N count component) ≡ through d Q → From (InForce N) c d × TableUsed d Q
   sealing-through = acts_through (InForce N) good (none_used good.sound) _ (sealing_names (InForce N) N component (λ _ force. force) count)
+
+  pub sealing-stopped : {n : ℕ} {v : Option ℕ} → run_acts c (λ _ _. 0) (sealing N count component) ≡ stopped d n v → From (InForce N) c d
+  sealing-stopped = acts_stopped (InForce N) good (none_used good.sound) _ (sealing_names (InForce N) N component (λ _ force. force) count)
 
   module _ (s : ℕ) {Q : ℕ → ℕ → ℕ} (table : TableUsed c Q) where
     -- a row is traced in the store

@@ -1,9 +1,12 @@
--- In a Kleene algebra: the row that is traced in the store reads as what elimination gives. Assumes nothing.
-use Rattle.std.proofs.Common.{◌≡◌, ℕ}
+-- In a Kleene algebra: the row that is traced in the store reads as the least solution of the network's equations. Assumes
+-- nothing.
+use Rattle.std.proofs.Common.{◌≡◌, ℕ, sym, subst}
+use mathlib.Core.Path.{fun_ext}
 use Rattle.kleene.specs.Algebras.{Meaning, Kleene}
 use Rattle.elimination.specs.Networks.{Network, InForce}
-use Rattle.elimination.specs.Equations.{Weighed}
+use Rattle.elimination.specs.Equations.{Weighed, Least}
 use Rattle.elimination.specs.Moves.{traced}
+use Rattle.elimination.proofs.Least.{solves-and-least}
 use Rattle.expressions.specs.Contents.{Contents}
 use Rattle.expressions.specs.Meanings.{meaning_of}
 use Rattle.expressions.specs.Laws.{WeighedIn}
@@ -41,3 +44,8 @@ module _ {V : Type 0} (m : Meaning V) (laws : Kleene m) (weight : ℕ → V) (N 
     -- in a store whose steps have members for weights
     pub reads_weighed : WeighedIn m weight e
     reads_weighed = weighed_in m weight N weighed e stands.0.good.named
+
+    -- so it is the least solution
+    pub reads_least : Least m N s weight (λ v. meaning_of m.on weight e (R v))
+    reads_least =
+        subst (Least m N s weight) (sym (fun_ext reads_traced)) (solves-and-least m laws N count component s weight t.joined t.ordered t.source weighed)

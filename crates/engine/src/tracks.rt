@@ -3,7 +3,7 @@ ghost use Rattle.std.specs.Prelude.{◌≡◌, ℕ, ◌^◌, ◌<◌, ◌≤◌,
 ghost use Rattle.kleene.specs.Algebras.{everywhere};
 ghost use Rattle.refusals.specs.Refused.{outcome};
 ghost use Rattle.elimination.specs.Moves.{below, put, tracing};
-ghost use Rattle.expressions.specs.Stores.{contents, Lent};
+ghost use Rattle.expressions.specs.Stores.{contents, Lent, Extends};
 ghost use Rattle.expressions.specs.Layout.{each, well_formed};
 ghost use Rattle.expressions.specs.Meanings.{values, names_below};
 ghost use Rattle.network.specs.Plans.{planned};
@@ -32,7 +32,7 @@ fn trace_in(store: &mut Store, plan: &Plan, steps: &[Step], source: usize) -> Re
     requires joined { steps_sound (planned plan.now).formats steps.now ≡ true }
     requires source { source < (planned plan.now).formats }
     ensures run { ◌≡◌ {A = Ran (ℕ → ℕ)} (row_seen result (contents store.new)) (run_moves (planned plan.now).table (contents store.old) (put source 1 (λ _. 0)) (tracing (drawn (planned plan.now).formats steps.now) (planned plan.now).components (planned plan.now).component)) }
-    ensures lent { Lent store.new store.old }
+    ensures kept { Extends store.old store.new }
 {
     let row = Row::from_source(source);
     let mut tracer = Tracer {

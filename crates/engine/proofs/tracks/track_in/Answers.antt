@@ -62,5 +62,5 @@ returns c =
       tracked =
           (λ i. record { answer = outcome row_of c.trace_in-traced.result; state = counted i; records = after.records; heads = after.heads })
           ∙ seen_so s c.trace_in-traced.result after ∙ ap (tracked_by s) (e.run ∙ run);
-      lent = e.lent;
+      lent = e.kept.lent;
     }
