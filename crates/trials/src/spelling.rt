@@ -2,7 +2,6 @@
 use crate::lists::LONGEST;
 use expressions::{Kind, Record};
 use std::alloc::{AllocError, Global};
-use std::array;
 
 // The places between the steps of a list, and those at its ends.
 const PLACES: usize = LONGEST + 1;
@@ -12,10 +11,9 @@ const PLACES: usize = LONGEST + 1;
 struct Ways([[u64; PLACES]; PLACES]);
 
 impl Ways {
-    fn from_fn<F: Fn(usize, usize) -> u64>(ways: F) -> Ways
-        requires { F.IsAlwaysCallable ways }
-    {
-        Ways(array::from_fn(|from| array::from_fn(|to| ways(from, to))))
+    // No part is spelled.
+    fn none() -> Ways {
+        Ways([[0; PLACES]; PLACES])
     }
 
     fn get(&self, from: usize, to: usize) -> u64 {
@@ -26,9 +24,24 @@ impl Ways {
             .unwrap_or(0)
     }
 
-    // No part is spelled.
-    fn none() -> Ways {
-        Ways::from_fn(|_, _| 0)
+    fn set(&mut self, from: usize, to: usize, ways: u64) {
+        if let Some(part) = self.0.get_mut(from).and_then(|row| row.get_mut(to)) {
+            *part = ways;
+        }
+    }
+
+    // So many ways for each part. None ends before it begins.
+    fn from_fn<F: Fn(usize, usize) -> u64>(ways: F) -> Ways
+        requires { F.IsAlwaysCallable ways }
+    {
+        let mut parts = Ways::none();
+        // The counters are the places themselves.
+        for from in 0..PLACES {
+            for to in from..PLACES {
+                parts.set(from, to, ways(from, to));
+            }
+        }
+        parts
     }
 
     // The empty parts are spelled once.
@@ -38,44 +51,49 @@ impl Ways {
 
     // The parts that are this step alone are spelled once.
     fn step(list: &[usize], step: usize) -> Ways {
-        Ways::from_fn(|from, to| match list.get(from..to) {
-            Some([only]) if *only == step => 1,
-            _ => 0,
-        })
+        let mut ways = Ways::none();
+        for (from, only) in list.iter().enumerate() {
+            if *only == step {
+                ways.set(from, from + 1, 1);
+            }
+        }
+        ways
     }
 
     fn sum(&self, other: &Ways) -> Ways {
         Ways::from_fn(|from, to| self.get(from, to).saturating_add(other.get(from, to)))
     }
 
-    // A part is cut in two at any of its places: this spells what is before the cut, the other what is after.
+    // A part is cut in two at its places from the first on: this spells what is before the cut, the other what is after.
+    fn cuts(&self, other: &Ways, first: usize, from: usize, to: usize) -> u64 {
+        (first..=to)
+            .map(|cut| self.get(from, cut).saturating_mul(other.get(cut, to)))
+            .fold(0, |ways: u64, more| ways.saturating_add(more))
+    }
+
     fn then(&self, other: &Ways) -> Ways {
-        Ways::from_fn(|from, to| {
-            (from..=to)
-                .map(|cut| self.get(from, cut).saturating_mul(other.get(cut, to)))
-                .fold(0, |ways: u64, more| ways.saturating_add(more))
-        })
+        Ways::from_fn(|from, to| self.cuts(other, from, from, to))
     }
 
-    // Only the parts that are not empty.
-    fn not_empty(&self) -> Ways {
-        Ways::from_fn(|from, to| if from < to { self.get(from, to) } else { 0 })
-    }
-
-    // An empty part is spelled once. Any other is cut where the first round ends, which is not empty: so no part has more rounds
-    // than a list has steps.
+    // An empty part is spelled once. Any other is cut where the first round ends, which is not empty; the later a part begins the
+    // earlier it is counted, since the other rounds are a part that begins later.
     fn repeat(&self) -> Ways {
-        let round = self.not_empty();
-        (0..LONGEST).fold(
-            Ways::stay(),
-            |rounds, _| Ways::stay().sum(&round.then(&rounds)),
-        )
+        let mut ways = Ways::stay();
+        for from in (0..PLACES).rev() {
+            for to in from + 1..PLACES {
+                ways.set(from, to, self.cuts(&ways, from + 1, from, to));
+            }
+        }
+        ways
     }
 }
 
 // The ways of the record of this number, none where there is no such record yet.
 fn known_ways(known: &[Ways], number: u32) -> Ways {
-    known.get(number as usize).copied().unwrap_or(Ways::none())
+    known
+        .get(number as usize)
+        .copied()
+        .unwrap_or_else(Ways::none)
 }
 
 // The ways of a record, from those of the lower ones.
