@@ -61,19 +61,18 @@ module _ {c : Contents} (sound : Sound c) where
   pub first_two : c.records ≡ record { kind = 0; left = 0; right = 0; next = 0 } ∷ record { kind = 1; left = 0; right = 0; next = 0 } ∷ drop 2 c.records
   first_two = first_of c.records c.count sound.begun (omega arith) sound.formed sound.linked
 
+  -- the head of a chain can be the next of a new record
+  pub head-linked : (kind left right at : ℕ) → at < 1024 → linked c.count (record { kind = kind; left = left; right = right; next = get_or c.heads at 0 }) ≡ true
+  head-linked kind left right at h = or_right _ _ (lt-ltb _ _ (head_below sound at h))
+
   -- with one record more, which is on no chain yet, it stays sound
   pub pushed-sound :
-      (kind left right number at : ℕ) → Fits c kind left right → c.count < limit c → number ≡ kind → at ≡ chain_of kind left right →
-      Sound (record {
-        records = set c.records c.count (record { kind = number; left = left; right = right; next = get_or c.heads at 0 });
-        heads = c.heads;
-        count = c.count + 1;
-      })
-  pushed-sound kind left right number at fit room of chain =
-      let new : Record = record { kind = number; left = left; right = right; next = get_or c.heads at 0 } in
-      let head = head_below sound at (omega arith) in
+      (kind left right number next : ℕ) → Fits c kind left right → c.count < limit c → number ≡ kind →
+      let new : Record = record { kind = number; left = left; right = right; next = next } in
+      linked c.count new ≡ true → Sound (record { records = set c.records c.count new; heads = c.heads; count = c.count + 1 })
+  pushed-sound kind left right number next fit room of chained =
+      let new : Record = record { kind = number; left = left; right = right; next = next } in
       let formed : well_formed c.count new ≡ true = grind (arith, nat_tests) in
-      let chained : linked c.count new ≡ true = or_right _ _ (lt-ltb _ _ head) in
       let each-more : (test : ℕ → Record → Bool) → each test 0 (used c) ≡ true → test c.count new ≡ true → each test 0 (take (c.count + 1) (set c.records c.count new)) ≡ true =
       λ test all here. subst (λ rs. each test 0 rs ≡ true) (sym (take_more_set c.records c.count new (omega arith)))
       (each_push test (used c) new all (rw (used-length sound) here)) in
@@ -126,7 +125,8 @@ module _ {c : Contents} (sound : Sound c) (kind left right : ℕ) where
 
     appended-sound : Fits c kind left right → Sound (appended c kind left right)
     appended-sound fit =
-        headed-sound (pushed-sound sound kind left right kind (chain_of kind left right) fit room refl refl) (chain_of kind left right) c.count (omega arith)
+        let at = chain_of kind left right in
+        headed-sound (pushed-sound sound kind left right kind _ fit room refl (head-linked sound kind left right at (omega arith))) at c.count (omega arith)
 
   made_gives : Fits c kind left right → Gives c kind left right (made c kind left right)
   made_gives fit =
