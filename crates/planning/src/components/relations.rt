@@ -70,12 +70,14 @@ impl Relation {
         ensures goes { (u v : ℕ) → goes self.new.sets u v ≡ (goes self.old.sets u v || (goes self.old.sets u k && goes self.old.sets k v)) }
     {
         let onward = self.sets[k];
-        // The counter is the number itself. A map over the sets would go to those past the size too, and copy them all.
-        for u in 0..self.size {
-            if has(self.sets[u], k) {
-                self.sets[u] |= onward;
+        // In a copy, since a part of a struct that has facts cannot be lent.
+        let mut sets = self.sets;
+        for set in sets[..self.size].iter_mut() {
+            if has(*set, k) {
+                *set |= onward;
             }
         }
+        self.sets = sets;
     }
 
     // Each number goes where ways through others lead.

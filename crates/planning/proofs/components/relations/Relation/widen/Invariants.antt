@@ -1,9 +1,9 @@
-use Rattle.std.proofs.Common.{◌≡◌, ℕ, ◌&&◌, ◌||◌, ltb}
-use Rattle.planning.specs.Bits.{goes}
+use Rattle.std.proofs.Common.{◌≡◌, ℕ, ◌&&◌, ◌||◌, ltb, length}
+use Rattle.planning.specs.Bits.{has, goes}
 use Rattle.planning.proofs.components.relations.Relation.widen.Given as goal
 
--- the sets below u are done
-abbrev pub invariant-loop-u : goal.invariant-loop-u
-invariant-loop-u l =
-    (l.self.size ≡ l.initial.self.size)
-    × ((w v : ℕ) → goes l.self.sets w v ≡ (goes l.initial.self.sets w v || (ltb w l.u && (goes l.initial.self.sets w l.k && goes l.initial.self.sets l.k v))))
+-- the sets before this one are done
+abbrev pub invariant-loop-set : goal.invariant-loop-set
+invariant-loop-set l =
+    (length l.set-items ≡ length l.initial.set-items)
+    × ((w v : ℕ) → goes l.set-items w v ≡ (goes l.initial.set-items w v || (ltb w l.set-index && (goes l.initial.set-items w l.k && has l.onward v))))
