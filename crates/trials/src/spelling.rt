@@ -30,7 +30,7 @@ impl Ways {
         }
     }
 
-    // So many ways for each part. None ends before it begins.
+    // So many ways for each part. No part ends before it begins.
     fn from_fn<F: Fn(usize, usize) -> u64>(ways: F) -> Ways
         requires { F.IsAlwaysCallable ways }
     {
@@ -79,6 +79,7 @@ impl Ways {
     // earlier it is counted, since the other rounds are a part that begins later.
     fn repeat(&self) -> Ways {
         let mut ways = Ways::stay();
+        // The counters are the places themselves: a part is counted from those that were written before it.
         for from in (0..PLACES).rev() {
             for to in from + 1..PLACES {
                 ways.set(from, to, self.cuts(&ways, from + 1, from, to));
